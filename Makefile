@@ -1,0 +1,10 @@
+# make test: the gate, from nothing: the layout of every file, then every proof, must-fail edit and program.
+# make fmt: put every file in the layout.
+.PHONY: test fmt
+
+test:
+	rt fmt --check
+	rt ci
+
+fmt:
+	rt fmt

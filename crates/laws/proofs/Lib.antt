@@ -1,0 +1,5 @@
+pub mod Rules
+pub mod Tests
+pub mod Table
+pub mod Xor
+pub mod Powers
