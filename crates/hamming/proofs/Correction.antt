@@ -1,0 +1,241 @@
+-- The correction theorem: what the decoder answers, over any good columns. All of it goes through one fact, `syndrome-flip`: a flipped bit
+-- changes the syndrome by that bit's mark; and one view, `judged`: the decoder names a bit whose mark is the syndrome, or there is none.
+-- Assumes nothing.
+use mathlib.Core.Path.{_≡_, refl, sym, ap, ap₂, _∙_, subst}
+use mathlib.Core.Bool.{Bool, true}
+use mathlib.Core.Logic.{_≢_, _↔_}
+use mathlib.Core.List.{List}
+use Prim.Native.Nat.{ℕ, _%_, _^_, _<_}
+use native.Mathlib.Nat.{zero-add}
+use native.Mathlib.Omega.{arith}
+use borrow.Author.Tests.{eqb-true, eqb-false}
+use lib.Dec.{eqb}
+use lib.ListN.{length, getD}
+use lib.Bits.{bitXor, xor-self, xor-zero-r, xor-lt}
+use lib.Pow.{pow-pos, pow-lt}
+use lib.Count.{ones}
+use Rattle.laws.proofs.Rules.{picked-by}
+use Rattle.laws.proofs.Xor.{xor-assoc, xor-back, xor-last, xor-zero-eq, ones-zero, ones-xor}
+use Rattle.laws.proofs.Powers.{pow-inj, pow-below, ones-pow, one-bit-place}
+use Rattle.hamming.specs.declared.Found.{Found}
+use Rattle.hamming.specs.declared.WrongBit.{WrongBit}
+use Rattle.hamming.specs.declared.WrongBit.the-variants.{None, Check, Data}
+use Rattle.hamming.specs.declared.Decoded.{Decoded}
+use Rattle.hamming.specs.declared.Decoded.the-variants.{Word, Uncorrectable}
+use Rattle.hamming.specs.Code.{checkNumber, syndrome, firstEqual, byColumn, bySyndrome, decodeWord}
+use Rattle.hamming.specs.Correction.{Coded, encoded, decoded, flip, Protected, AtMostOne, flagOf, GoodColumns, CorrectionTheorem}
+use Rattle.hamming.proofs.Linear.{check-xor, check-bit, check-fits}
+use Rattle.hamming.proofs.Search.{Searched, at, none, searched}
+
+-- ---- what a flipped bit adds to the syndrome
+
+abbrev mark : List ℕ → WrongBit → ℕ
+mark columns None = 0
+mark columns (Check j) = 2 ^ j
+mark columns (Data i) = getD columns i 0
+
+abbrev syndromeOf : List ℕ → Coded → ℕ
+syndromeOf columns word = syndrome columns (word .bits) (word .check)
+
+syndrome-flip : (columns : List ℕ) (p : WrongBit) (word : Coded) → syndromeOf columns (flip p word) ≡ bitXor (syndromeOf columns word) (mark columns p)
+unfolding syndrome
+syndrome-flip columns None word = sym (xor-zero-r _)
+syndrome-flip columns (Check j) word = xor-last (word .check) (2 ^ j) (checkNumber columns (word .bits))
+syndrome-flip columns (Data i) word =
+    ap (bitXor (word .check)) (check-xor columns (word .bits) (2 ^ i) ∙ ap (bitXor (checkNumber columns (word .bits))) (check-bit columns i))
+    ∙ sym (xor-assoc (word .check) (checkNumber columns (word .bits)) (getD columns i 0))
+
+syndrome-encoded : (columns : List ℕ) (d : ℕ) → syndromeOf columns (encoded columns d) ≡ 0
+unfolding syndrome
+syndrome-encoded columns d = xor-self (checkNumber columns d)
+
+syndrome-one : (columns : List ℕ) (d : ℕ) (p : WrongBit) → syndromeOf columns (flip p (encoded columns d)) ≡ mark columns p
+syndrome-one columns d p = syndrome-flip columns p (encoded columns d) ∙ ap (λ (x : ℕ). bitXor x (mark columns p)) (syndrome-encoded columns d)
+
+syndrome-two : (columns : List ℕ) (d : ℕ) (p q : WrongBit)
+    → syndromeOf columns (flip q (flip p (encoded columns d))) ≡ bitXor (mark columns p) (mark columns q)
+syndrome-two columns d p q = syndrome-flip columns q (flip p (encoded columns d)) ∙ ap (λ (x : ℕ). bitXor x (mark columns q)) (syndrome-one columns d p)
+
+-- ---- a bit flipped twice, and a word whose syndrome is a bit's mark
+
+flip-flip : (p : WrongBit) (word : Coded) → flip p (flip p word) ≡ word
+flip-flip None word = refl
+flip-flip (Check j) word = ap (λ (x : ℕ). flip None (record { bits = word .bits; check = x })) (xor-back (word .check) (2 ^ j))
+flip-flip (Data i) word = ap (λ (x : ℕ). flip None (record { bits = x; check = word .check })) (xor-back (word .bits) (2 ^ i))
+
+is-encoded : (columns : List ℕ) (word : Coded) → syndromeOf columns word ≡ 0 → word ≡ encoded columns (word .bits)
+unfolding syndrome
+is-encoded columns word e =
+    ap (λ (x : ℕ). flip None (record { bits = word .bits; check = x })) (xor-zero-eq (word .check) (checkNumber columns (word .bits)) e)
+
+marked : (columns : List ℕ) (p : WrongBit) (word : Coded) → mark columns p ≡ syndromeOf columns word → word ≡ flip p (encoded columns (flip p word .bits))
+marked columns p word e = sym (flip-flip p word) ∙ ap (flip p) (is-encoded columns (flip p word) zero-left)
+  where
+    zero-left : syndromeOf columns (flip p word) ≡ 0
+    zero-left = syndrome-flip columns p word ∙ ap (bitXor (syndromeOf columns word)) e ∙ xor-self (syndromeOf columns word)
+
+-- ---- the decoder names a bit whose mark is the syndrome, or there is none
+
+-- the bits that it can name
+abbrev Named : ℕ → WrongBit → Type 0
+Named n None = Unit {0}
+Named n (Check j) = Unit {0}
+Named n (Data i) = i < n
+
+data Judged (columns : List ℕ) (word : Coded) : Decoded → Type 0 where
+  names : (p : WrongBit) → Named (length columns) p → mark columns p ≡ syndromeOf columns word
+      → Judged columns word (Word (flip p word .bits) (flagOf p) p)
+  names-none : ((p : WrongBit) → Named (length columns) p → mark columns p ≡ syndromeOf columns word → ⊥) → Judged columns word Uncorrectable
+
+judged : (columns : List ℕ) (word : Coded) → Judged columns word (decoded columns word)
+unfolding bySyndrome decodeWord
+judged columns word =
+    picked-by (Judged columns word) (eqb s 0) (λ e. names None tt (sym (eqb-true s 0 e)))
+    (λ e. picked-by (Judged columns word) (eqb (ones s) 1) (λ o. names (Check _) tt (sym (one-bit-place s (eqb-true (ones s) 1 o))))
+    (λ o. by-search (eqb-false s 0 e) (eqb-false (ones s) 1 o) (firstEqual columns s) (searched columns s)))
+  where
+    s : ℕ
+    s = syndromeOf columns word
+
+    by-search : (s ≡ 0 → ⊥) → (ones s ≡ 1 → ⊥) → (f : Found) → Searched columns s 0 f → Judged columns word (byColumn (word .bits) f)
+    by-search e o f (at i h q) = rw zero-add (names (Data i) h q)
+    by-search e o f (none h) = names-none no-mark
+      where
+        no-mark : (p : WrongBit) → Named (length columns) p → mark columns p ≡ s → ⊥
+        no-mark None n q = e (sym q)
+        no-mark (Check j) n q = o (sym (ap ones q) ∙ ones-pow j)
+        no-mark (Data i) n q = h i n q
+
+-- ---- the theorem
+
+module _ (w : ℕ) (columns : List ℕ) (g : GoodColumns w columns) where
+  -- a bit's mark has an odd number of ones, and no two bits have the same
+  mark-odd : (p : WrongBit) → Protected (length columns) w p → ones (mark columns p) % 2 ≡ 1
+  mark-odd None h = absurd h
+  mark-odd (Check j) h = ap (λ (x : ℕ). x % 2) (ones-pow j)
+  mark-odd (Data i) h = g .odd i h
+
+  mark-inj : (p q : WrongBit) → Named (length columns) p → Named (length columns) q → mark columns p ≡ mark columns q → p ≡ q
+  mark-inj None None h k e = refl
+  mark-inj None (Check j) h k e = absurd (omega (arith, pow-pos j))
+  mark-inj None (Data i) h k e = absurd (omega (arith, g .three i k, ap ones e, ones-zero))
+  mark-inj (Check j) None h k e = absurd (omega (arith, pow-pos j))
+  mark-inj (Check j) (Check l) h k e = ap Check (pow-inj j l e)
+  mark-inj (Check j) (Data i) h k e = absurd (omega (arith, g .three i k, ap ones e, ones-pow j))
+  mark-inj (Data i) None h k e = absurd (omega (arith, g .three i h, ap ones e, ones-zero))
+  mark-inj (Data i) (Check j) h k e = absurd (omega (arith, g .three i h, ap ones e, ones-pow j))
+  mark-inj (Data i) (Data l) h k e = ap Data (g .distinct i l h k e)
+
+  named : (p : WrongBit) → AtMostOne (length columns) w p → Named (length columns) p
+  named None h = tt
+  named (Check j) h = tt
+  named (Data i) h = h
+
+  at-most : (p : WrongBit) → Protected (length columns) w p → AtMostOne (length columns) w p
+  at-most None h = tt
+  at-most (Check j) h = h
+  at-most (Data i) h = h
+
+  -- at most one bit flipped: the data come back, and the bit is named
+  at-most-one : (d : ℕ) (p : WrongBit) → Named (length columns) p → decoded columns (flip p (encoded columns d)) ≡ Word d (flagOf p) p
+  at-most-one d p h = go (decoded columns word) (judged columns word)
+    where
+      word : Coded
+      word = flip p (encoded columns d)
+
+      go : (r : Decoded) → Judged columns word r → r ≡ Word d (flagOf p) p
+      go r (names q k e) =
+          let same : q ≡ p = mark-inj q p k h (e ∙ syndrome-one columns d p) in
+          ap (λ (x : WrongBit). Word (flip x word .bits) (flagOf x) x) same
+          ∙ ap (λ (v : Coded). Word (v .bits) (flagOf p) p) (flip-flip p (encoded columns d))
+      go r (names-none nowhere) = absurd (nowhere p h (sym (syndrome-one columns d p)))
+
+  one-wrong : (d : ℕ) (p : WrongBit) → Protected (length columns) w p → decoded columns (flip p (encoded columns d)) ≡ Word d true p
+  one-wrong d None h = absurd h
+  one-wrong d (Check j) h = at-most-one d (Check j) tt
+  one-wrong d (Data i) h = at-most-one d (Data i) h
+
+  -- two: their marks add up to an even number of ones, and not to 0
+  two-wrong : (d : ℕ) (p q : WrongBit) → Protected (length columns) w p → Protected (length columns) w q → p ≢ q
+      → decoded columns (flip q (flip p (encoded columns d))) ≡ Uncorrectable
+  two-wrong d p q h k ne = go (decoded columns word) (judged columns word)
+    where
+      word : Coded
+      word = flip q (flip p (encoded columns d))
+
+      even : ones (bitXor (mark columns p) (mark columns q)) % 2 ≡ 0
+      even = omega (arith, ones-xor (mark columns p) (mark columns q), mark-odd p h, mark-odd q k)
+
+      no-mark : (r : WrongBit) → Named (length columns) r → mark columns r ≡ bitXor (mark columns p) (mark columns q) → ⊥
+      no-mark None n e = ne (mark-inj p q (named p (at-most p h)) (named q (at-most q k)) (xor-zero-eq (mark columns p) (mark columns q) (sym e)))
+      no-mark (Check j) n e = omega (arith, even, ap ones e, ones-pow j)
+      no-mark (Data i) n e = omega (arith, even, ap ones e, g .odd i n)
+
+      go : (r : Decoded) → Judged columns word r → r ≡ Uncorrectable
+      go r (names x n e) = absurd (no-mark x n (e ∙ syndrome-two columns d p q))
+      go r (names-none nowhere) = refl
+
+  -- a named bit of a word whose check number fits
+  fits : (word : Coded) → word .check < 2 ^ w → (p : WrongBit) → Named (length columns) p → mark columns p ≡ syndromeOf columns word
+      → AtMostOne (length columns) w p
+  unfolding syndrome
+  fits word h None n e = tt
+  fits word h (Check j) n e =
+      pow-below j w (rw e (xor-lt w (word .check) (checkNumber columns (word .bits)) h (check-fits w columns (word .bits) (g .fit))))
+  fits word h (Data i) n e = n
+
+  conversely : (word : Coded) → word .check < 2 ^ w → (d : ℕ) (flag : Bool) (p : WrongBit) → decoded columns word ≡ Word d flag p
+      → (word ≡ flip p (encoded columns d)) × (flag ≡ flagOf p) × AtMostOne (length columns) w p
+  conversely word h d flag p = go (decoded columns word) (judged columns word)
+    where
+      go : (r : Decoded) → Judged columns word r → r ≡ Word d flag p → (word ≡ flip p (encoded columns d)) × (flag ≡ flagOf p) × AtMostOne (length columns) w p
+      go r (names q n e) told =
+          let same : q ≡ p = cc in
+          let data-same : flip q word .bits ≡ d = cc in
+          let flag-same : flagOf q ≡ flag = cc in (
+            marked columns q word e ∙ ap₂ (λ (x : WrongBit) (y : ℕ). flip x (encoded columns y)) same data-same,
+            sym flag-same ∙ ap flagOf same,
+            subst (AtMostOne (length columns) w) same (fits word h q n e),
+          )
+      go r (names-none nowhere) told = absurd (let z : _≡_ {A = ℕ} 0 1 = cc in omega arith)
+
+  none-within : (word : Coded) → word .check < 2 ^ w
+      → (decoded columns word ≡ Uncorrectable) ↔ ((d : ℕ) (p : WrongBit) → AtMostOne (length columns) w p → word ≢ flip p (encoded columns d))
+  none-within word h = (far, λ nowhere. refused nowhere (decoded columns word) (judged columns word))
+    where
+      far : decoded columns word ≡ Uncorrectable → (d : ℕ) (p : WrongBit) → AtMostOne (length columns) w p → word ≡ flip p (encoded columns d) → ⊥
+      far told d p a e =
+          let answer : Uncorrectable ≡ Word d (flagOf p) p = sym told ∙ ap (decoded columns) e ∙ at-most-one d p (named p a) in
+          let z : _≡_ {A = ℕ} 0 1 = cc in
+          omega arith
+
+      refused : ((d : ℕ) (p : WrongBit) → AtMostOne (length columns) w p → word ≢ flip p (encoded columns d))
+          → (r : Decoded) → Judged columns word r → r ≡ Uncorrectable
+      refused nowhere r (names p n e) = absurd (nowhere (flip p word .bits) p (fits word h p n e) (marked columns p word e))
+      refused nowhere r (names-none x) = refl
+
+  data-below : (word : Coded) → word .bits < 2 ^ length columns → (d : ℕ) (flag : Bool) (p : WrongBit) → decoded columns word ≡ Word d flag p
+      → d < 2 ^ length columns
+  data-below word h d flag p = go (decoded columns word) (judged columns word)
+    where
+      flipped : (q : WrongBit) → Named (length columns) q → flip q word .bits < 2 ^ length columns
+      flipped None n = h
+      flipped (Check j) n = h
+      flipped (Data i) n = xor-lt (length columns) (word .bits) (2 ^ i) h (pow-lt n)
+
+      go : (r : Decoded) → Judged columns word r → r ≡ Word d flag p → d < 2 ^ length columns
+      go r (names q n e) told =
+          let same : flip q word .bits ≡ d = cc in
+          subst (λ (x : ℕ). x < 2 ^ length columns) same (flipped q n)
+      go r (names-none nowhere) told = absurd (let z : _≡_ {A = ℕ} 0 1 = cc in omega arith)
+
+pub correction : CorrectionTheorem
+correction w columns g = record {
+  check-fits = λ d. check-fits w columns d (g .fit);
+  clean = λ d. at-most-one w columns g d None tt;
+  one-flip = one-wrong w columns g;
+  two-flips = two-wrong w columns g;
+  answered = conversely w columns g;
+  uncorrectable = none-within w columns g;
+  data-fits = data-below w columns g;
+}

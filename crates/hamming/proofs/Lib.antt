@@ -1,0 +1,6 @@
+pub mod Linear
+pub mod Search
+pub mod Loops
+pub mod Correction
+pub mod Columns
+pub mod Uses

@@ -1,0 +1,83 @@
+-- What the code corrects, over any good columns: every answer about damaged frames rests on this. Proved in proofs/Correction.antt.
+use Prim.Native.Nat.{ℕ, _%_, _^_, _≤_, _<_}
+use mathlib.Core.Path.{_≡_}
+use mathlib.Core.Bool.{Bool, true, false}
+use mathlib.Core.Logic.{_≢_, _↔_}
+use mathlib.Core.List.{List}
+use lib.Bits.{bitXor}
+use lib.Count.{ones}
+use lib.ListN.{length, getD}
+use Rattle.hamming.specs.declared.WrongBit.{WrongBit}
+use Rattle.hamming.specs.declared.WrongBit.the-variants.{None, Check, Data}
+use Rattle.hamming.specs.declared.Decoded.{Decoded}
+use Rattle.hamming.specs.declared.Decoded.the-variants.{Word, Uncorrectable}
+use Rattle.hamming.specs.Code.{checkNumber, decodeWord}
+
+-- a word as it is sent or received: its data bits and its check number
+pub record Coded : Type 0 where
+  pub bits : ℕ
+  pub check : ℕ
+
+-- the data d as they are sent
+abbrev pub encoded : List ℕ → ℕ → Coded
+encoded columns d = record { bits = d; check = checkNumber columns d }
+
+-- a word as the decoder answers it
+abbrev pub decoded : List ℕ → Coded → Decoded
+decoded columns word = decodeWord columns (word .bits) (word .check)
+
+-- the word with that bit flipped
+abbrev pub flip : WrongBit → Coded → Coded
+flip None word = word
+flip (Check j) word = record { bits = word .bits; check = bitXor (word .check) (2 ^ j) }
+flip (Data i) word = record { bits = bitXor (word .bits) (2 ^ i); check = word .check }
+
+-- 01's term "protected bit": "Protected bits are data and check bits; start, format and stop are not." Of n data bits and w check bits:
+abbrev pub Protected : ℕ → ℕ → WrongBit → Type 0
+Protected n w None = ⊥
+Protected n w (Check j) = j < w
+Protected n w (Data i) = i < n
+
+-- no bit, or a protected one
+abbrev pub AtMostOne : ℕ → ℕ → WrongBit → Type 0
+AtMostOne n w None = Unit {0}
+AtMostOne n w (Check j) = Protected n w (Check j)
+AtMostOne n w (Data i) = Protected n w (Data i)
+
+-- the flag "corrected"
+abbrev pub flagOf : WrongBit → Bool
+flagOf None = false
+flagOf (Check j) = true
+flagOf (Data i) = true
+
+-- good columns for w check bits: below 2 ^ w, an odd number of ones, at least three, and no two equal
+pub record GoodColumns (w : ℕ) (columns : List ℕ) : Type 0 where
+  pub fit : (i : ℕ) → i < length columns → getD columns i 0 < 2 ^ w
+  pub odd : (i : ℕ) → i < length columns → ones (getD columns i 0) % 2 ≡ 1
+  pub three : (i : ℕ) → i < length columns → 3 ≤ ones (getD columns i 0)
+  pub distinct : (i k : ℕ) → i < length columns → k < length columns → getD columns i 0 ≡ getD columns k 0 → i ≡ k
+
+-- what the decoder answers, and what its answer means, for w check bits
+pub record Corrects (w : ℕ) (columns : List ℕ) : Type 0 where
+  -- a check number has w bits
+  pub check-fits : (d : ℕ) → checkNumber columns d < 2 ^ w
+  -- an encoded word is clean
+  pub clean : (d : ℕ) → decoded columns (encoded columns d) ≡ Word d false None
+  -- one protected bit flipped: the data come back, and the bit is named
+  pub one-flip : (d : ℕ) (p : WrongBit) → Protected (length columns) w p → decoded columns (flip p (encoded columns d)) ≡ Word d true p
+  -- two different protected bits flipped: uncorrectable
+  pub two-flips : (d : ℕ) (p q : WrongBit) → Protected (length columns) w p → Protected (length columns) w q → p ≢ q
+      → decoded columns (flip q (flip p (encoded columns d))) ≡ Uncorrectable
+  -- conversely, data d and bit p are answered only of the encoding of d with exactly that bit flipped, none if clean; the flag says which
+  pub answered : (word : Coded) → word .check < 2 ^ w → (d : ℕ) (flag : Bool) (p : WrongBit) → decoded columns word ≡ Word d flag p
+      → (word ≡ flip p (encoded columns d)) × (flag ≡ flagOf p) × AtMostOne (length columns) w p
+  -- and uncorrectable is answered exactly where no encoded word is within one flip
+  pub uncorrectable : (word : Coded) → word .check < 2 ^ w
+      → (decoded columns word ≡ Uncorrectable) ↔ ((d : ℕ) (p : WrongBit) → AtMostOne (length columns) w p → word ≢ flip p (encoded columns d))
+  -- the data answered have no more bits than the data received
+  pub data-fits : (word : Coded) → word .bits < 2 ^ length columns → (d : ℕ) (flag : Bool) (p : WrongBit) → decoded columns word ≡ Word d flag p
+      → d < 2 ^ length columns
+
+-- the theorem, once over any width and any number of columns
+abbrev pub CorrectionTheorem : Type 0
+CorrectionTheorem = (w : ℕ) (columns : List ℕ) → GoodColumns w columns → Corrects w columns
