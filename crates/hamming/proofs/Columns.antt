@@ -2,8 +2,7 @@
 use mathlib.Core.Path.{_≡_, refl, sym, ap, _∙_}
 use mathlib.Core.Bool.{Bool, true, false≢true}
 use mathlib.Core.List.{List}
-use Prim.Native.Nat.{ℕ, _%_, _^_, _≤_, _<_}
-use native.Mathlib.Nat.{lt-of-lt-of-le}
+use Prim.Native.Nat.{ℕ, _^_, _≤_, _<_}
 use native.Mathlib.Omega.{arith}
 use borrow.Author.Tests.{eqb-true, ltb-true}
 use lib.ListN.{length, take, getD}
@@ -53,8 +52,8 @@ table-facts i h = record {
 -- the first n columns are good for w check bits, where each of them fits
 pub good : (n w : ℕ) → n ≤ 32 → ((i : ℕ) → i < n → widthAt i ≤ w) → GoodColumns w (take n columnTable)
 good n w h fit = record {
-  fit = λ i l. rw (at i l) (lt-of-lt-of-le (facts i l .fits) (pow-mono (fit i (below i l))));
-  odd = λ i l. rw (at i l) (ap (λ (x : ℕ). x % 2) (facts i l .three));
+  fit = λ i l. rw (at i l) (omega (arith, facts i l .fits, pow-mono (fit i (below i l))));
+  odd = λ i l. rw (at i l) (omega (arith, facts i l .three));
   three = λ i l. rw (at i l) (omega (arith, facts i l .three));
   distinct = λ i k l m e. facts i l .distinct k (omega (arith, below k m)) (sym (at i l) ∙ e ∙ at k m);
 }

@@ -1,9 +1,8 @@
 -- The correction theorem: what the decoder answers, over any good columns. All of it goes through one fact, `syndrome-flip`: a flipped bit
 -- changes the syndrome by that bit's mark; and one view, `judged`: the decoder names a bit whose mark is the syndrome, or there is none.
 -- Assumes nothing.
-use mathlib.Core.Path.{_≡_, refl, sym, ap, ap₂, _∙_, subst}
-use mathlib.Core.Bool.{Bool, true}
-use mathlib.Core.Logic.{_≢_, _↔_}
+use mathlib.Core.Path.{_≡_, refl, sym, ap, _∙_, subst}
+use mathlib.Core.Bool.{Bool}
 use mathlib.Core.List.{List}
 use Prim.Native.Nat.{ℕ, _%_, _^_, _<_}
 use native.Mathlib.Nat.{zero-add}
@@ -23,7 +22,7 @@ use Rattle.hamming.specs.declared.WrongBit.the-variants.{None, Check, Da
 use Rattle.hamming.specs.declared.Decoded.{Decoded}
 use Rattle.hamming.specs.declared.Decoded.the-variants.{Word, Uncorrectable}
 use Rattle.hamming.specs.Code.{checkNumber, syndrome, firstEqual, byColumn, bySyndrome, decodeWord}
-use Rattle.hamming.specs.Correction.{Coded, encoded, decoded, flip, Protected, AtMostOne, flagOf, GoodColumns, CorrectionTheorem}
+use Rattle.hamming.specs.Correction.{Coded, encoded, decoded, flip, Protected, AtMostOne, NoneWithin, flagOf, GoodColumns, OneFlip, TwoFlips, AnswerExplains, UncorrectableExactly, DataFits, CorrectionTheorem}
 use Rattle.hamming.proofs.Linear.{check-xor, check-bit, check-fits}
 use Rattle.hamming.proofs.Search.{Searched, at, none, searched}
 
@@ -106,6 +105,27 @@ judged columns word =
         no-mark (Check j) n q = o (sym (ap ones q) ∙ ones-pow j)
         no-mark (Data i) n q = h i n q
 
+-- what an answer with data says
+record Answer (columns : List ℕ) (word : Coded) (d : ℕ) (flag : Bool) (p : WrongBit) : Type 0 where
+  bit-named : Named (length columns) p
+  mark-is : mark columns p ≡ syndromeOf columns word
+  data-is : d ≡ flip p word .bits
+  flag-is : flag ≡ flagOf p
+
+answer : (columns : List ℕ) (word : Coded) (d : ℕ) (flag : Bool) (p : WrongBit) → decoded columns word ≡ Word d flag p → Answer columns word d flag p
+answer columns word d flag p = go (decoded columns word) (judged columns word)
+  where
+    go : (r : Decoded) → Judged columns word r → r ≡ Word d flag p → Answer columns word d flag p
+    go r (names q n e) told =
+        let same : q ≡ p = cc in
+        record {
+          bit-named = subst (Named (length columns)) same n;
+          mark-is = rw same at e;
+          data-is = (let b : flip q word .bits ≡ d = cc in rw same at (sym b));
+          flag-is = (let f : flagOf q ≡ flag = cc in rw same at (sym f));
+        }
+    go r (names-none nowhere) told = absurd (let z : _≡_ {A = ℕ} 0 1 = cc in omega arith)
+
 -- ---- the theorem
 
 module _ (w : ℕ) (columns : List ℕ) (g : GoodColumns w columns) where
@@ -126,15 +146,15 @@ module _ (w : ℕ) (columns : List ℕ) (g : GoodColumns w columns) where
   mark-inj (Data i) (Check j) h k e = absurd (omega (arith, g .three i h, ap ones e, ones-pow j))
   mark-inj (Data i) (Data l) h k e = ap Data (g .distinct i l h k e)
 
-  named : (p : WrongBit) → AtMostOne (length columns) w p → Named (length columns) p
-  named None h = tt
-  named (Check j) h = tt
-  named (Data i) h = h
-
   at-most : (p : WrongBit) → Protected (length columns) w p → AtMostOne (length columns) w p
   at-most None h = tt
   at-most (Check j) h = h
   at-most (Data i) h = h
+
+  named : (p : WrongBit) → AtMostOne (length columns) w p → Named (length columns) p
+  named None h = tt
+  named (Check j) h = tt
+  named (Data i) h = h
 
   -- at most one bit flipped: the data come back, and the bit is named
   at-most-one : (d : ℕ) (p : WrongBit) → Named (length columns) p → decoded columns (flip p (encoded columns d)) ≡ Word d (flagOf p) p
@@ -150,15 +170,14 @@ module _ (w : ℕ) (columns : List ℕ) (g : GoodColumns w columns) where
           ∙ ap (λ (v : Coded). Word (v .bits) (flagOf p) p) (flip-flip p (encoded columns d))
       go r (names-none nowhere) = absurd (nowhere p h (sym (syndrome-one columns d p)))
 
-  one-wrong : (d : ℕ) (p : WrongBit) → Protected (length columns) w p → decoded columns (flip p (encoded columns d)) ≡ Word d true p
-  one-wrong d None h = absurd h
-  one-wrong d (Check j) h = at-most-one d (Check j) tt
-  one-wrong d (Data i) h = at-most-one d (Data i) h
+  one-flip : OneFlip w columns
+  one-flip d None h = absurd h
+  one-flip d (Check j) h = at-most-one d (Check j) tt
+  one-flip d (Data i) h = at-most-one d (Data i) h
 
-  -- two: their marks add up to an even number of ones, and not to 0
-  two-wrong : (d : ℕ) (p q : WrongBit) → Protected (length columns) w p → Protected (length columns) w q → p ≢ q
-      → decoded columns (flip q (flip p (encoded columns d))) ≡ Uncorrectable
-  two-wrong d p q h k ne = go (decoded columns word) (judged columns word)
+  -- two marks add up to an even number of ones, and not to 0
+  two-flips : TwoFlips w columns
+  two-flips d p q h k ne = go (decoded columns word) (judged columns word)
     where
       word : Coded
       word = flip q (flip p (encoded columns d))
@@ -167,7 +186,8 @@ module _ (w : ℕ) (columns : List ℕ) (g : GoodColumns w columns) where
       even = omega (arith, ones-xor (mark columns p) (mark columns q), mark-odd p h, mark-odd q k)
 
       no-mark : (r : WrongBit) → Named (length columns) r → mark columns r ≡ bitXor (mark columns p) (mark columns q) → ⊥
-      no-mark None n e = ne (mark-inj p q (named p (at-most p h)) (named q (at-most q k)) (xor-zero-eq (mark columns p) (mark columns q) (sym e)))
+      no-mark None n e =
+          ne (mark-inj p q (named p (at-most p h)) (named q (at-most q k)) (xor-zero-eq (mark columns p) (mark columns q) (sym e)))
       no-mark (Check j) n e = omega (arith, even, ap ones e, ones-pow j)
       no-mark (Data i) n e = omega (arith, even, ap ones e, g .odd i n)
 
@@ -184,58 +204,43 @@ module _ (w : ℕ) (columns : List ℕ) (g : GoodColumns w columns) where
       pow-below j w (rw e (xor-lt w (word .check) (checkNumber columns (word .bits)) h (check-fits w columns (word .bits) (g .fit))))
   fits word h (Data i) n e = n
 
-  conversely : (word : Coded) → word .check < 2 ^ w → (d : ℕ) (flag : Bool) (p : WrongBit) → decoded columns word ≡ Word d flag p
-      → (word ≡ flip p (encoded columns d)) × (flag ≡ flagOf p) × AtMostOne (length columns) w p
-  conversely word h d flag p = go (decoded columns word) (judged columns word)
-    where
-      go : (r : Decoded) → Judged columns word r → r ≡ Word d flag p → (word ≡ flip p (encoded columns d)) × (flag ≡ flagOf p) × AtMostOne (length columns) w p
-      go r (names q n e) told =
-          let same : q ≡ p = cc in
-          let data-same : flip q word .bits ≡ d = cc in
-          let flag-same : flagOf q ≡ flag = cc in (
-            marked columns q word e ∙ ap₂ (λ (x : WrongBit) (y : ℕ). flip x (encoded columns y)) same data-same,
-            sym flag-same ∙ ap flagOf same,
-            subst (AtMostOne (length columns) w) same (fits word h q n e),
-          )
-      go r (names-none nowhere) told = absurd (let z : _≡_ {A = ℕ} 0 1 = cc in omega arith)
+  answer-explains : AnswerExplains w columns
+  answer-explains word h d flag p told =
+      let a = answer columns word d flag p told in
+      record {
+        word-is = rw (a .data-is) (marked columns p word (a .mark-is));
+        flag-is = a .flag-is;
+        bit = fits word h p (a .bit-named) (a .mark-is);
+      }
 
-  none-within : (word : Coded) → word .check < 2 ^ w
-      → (decoded columns word ≡ Uncorrectable) ↔ ((d : ℕ) (p : WrongBit) → AtMostOne (length columns) w p → word ≢ flip p (encoded columns d))
-  none-within word h = (far, λ nowhere. refused nowhere (decoded columns word) (judged columns word))
+  uncorrectable-exactly : UncorrectableExactly w columns
+  uncorrectable-exactly word h = (far, λ nowhere. uncorrected nowhere (decoded columns word) (judged columns word))
     where
-      far : decoded columns word ≡ Uncorrectable → (d : ℕ) (p : WrongBit) → AtMostOne (length columns) w p → word ≡ flip p (encoded columns d) → ⊥
+      far : decoded columns word ≡ Uncorrectable → NoneWithin w columns word
       far told d p a e =
-          let answer : Uncorrectable ≡ Word d (flagOf p) p = sym told ∙ ap (decoded columns) e ∙ at-most-one d p (named p a) in
+          let answered : Uncorrectable ≡ Word d (flagOf p) p = sym told ∙ ap (decoded columns) e ∙ at-most-one d p (named p a) in
           let z : _≡_ {A = ℕ} 0 1 = cc in
           omega arith
 
-      refused : ((d : ℕ) (p : WrongBit) → AtMostOne (length columns) w p → word ≢ flip p (encoded columns d))
-          → (r : Decoded) → Judged columns word r → r ≡ Uncorrectable
-      refused nowhere r (names p n e) = absurd (nowhere (flip p word .bits) p (fits word h p n e) (marked columns p word e))
-      refused nowhere r (names-none x) = refl
+      uncorrected : NoneWithin w columns word → (r : Decoded) → Judged columns word r → r ≡ Uncorrectable
+      uncorrected nowhere r (names p n e) = absurd (nowhere (flip p word .bits) p (fits word h p n e) (marked columns p word e))
+      uncorrected nowhere r (names-none x) = refl
 
-  data-below : (word : Coded) → word .bits < 2 ^ length columns → (d : ℕ) (flag : Bool) (p : WrongBit) → decoded columns word ≡ Word d flag p
-      → d < 2 ^ length columns
-  data-below word h d flag p = go (decoded columns word) (judged columns word)
-    where
-      flipped : (q : WrongBit) → Named (length columns) q → flip q word .bits < 2 ^ length columns
-      flipped None n = h
-      flipped (Check j) n = h
-      flipped (Data i) n = xor-lt (length columns) (word .bits) (2 ^ i) h (pow-lt n)
-
-      go : (r : Decoded) → Judged columns word r → r ≡ Word d flag p → d < 2 ^ length columns
-      go r (names q n e) told =
-          let same : flip q word .bits ≡ d = cc in
-          subst (λ (x : ℕ). x < 2 ^ length columns) same (flipped q n)
-      go r (names-none nowhere) told = absurd (let z : _≡_ {A = ℕ} 0 1 = cc in omega arith)
+data-fits : (columns : List ℕ) → DataFits columns
+data-fits columns word h d flag p told = let a = answer columns word d flag p told in rw (a .data-is) (below p (a .bit-named))
+  where
+    below : (q : WrongBit) → Named (length columns) q → flip q word .bits < 2 ^ length columns
+    below None n = h
+    below (Check j) n = h
+    below (Data i) n = xor-lt (length columns) (word .bits) (2 ^ i) h (pow-lt n)
 
 pub correction : CorrectionTheorem
 correction w columns g = record {
-  check-fits = λ d. check-fits w columns d (g .fit);
   clean = λ d. at-most-one w columns g d None tt;
-  one-flip = one-wrong w columns g;
-  two-flips = two-wrong w columns g;
-  answered = conversely w columns g;
-  uncorrectable = none-within w columns g;
-  data-fits = data-below w columns g;
+  one-flip = one-flip w columns g;
+  two-flips = two-flips w columns g;
+  answer-explains = answer-explains w columns g;
+  uncorrectable-exactly = uncorrectable-exactly w columns g;
+  check-fits = λ d. check-fits w columns d (g .fit);
+  data-fits = data-fits columns;
 }

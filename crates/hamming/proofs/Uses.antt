@@ -2,22 +2,20 @@
 use mathlib.Core.Path.{_∙_}
 use mathlib.Core.Logic.{inl, inr}
 use Prim.Native.Nat.{ℕ, _≤_}
-use native.Mathlib.Nat.{le-refl}
 use borrow.Author.Tests.{lt-ltb}
 use lib.Count.{ones}
 use lib.Dec.{ltb, lit≤}
 use Rattle.laws.proofs.Rules.{picked}
 use Rattle.hamming.specs.Code.{firstFrom, bySyndrome, decodeWord}
-use Rattle.hamming.specs.Columns.{shortColumns, longColumns}
 use Rattle.hamming.specs.Uses.{ShortFrames, LongFrames, OddButNoBit}
 use Rattle.hamming.proofs.Correction.{correction}
 use Rattle.hamming.proofs.Columns.{good}
 
 pub short-frames : ShortFrames
-short-frames = correction 5 shortColumns (good 8 5 (lit≤ tt) (λ i l. rw (lt-ltb i 8 l) (le-refl 5)))
+short-frames = correction _ _ (good 8 _ (lit≤ tt) (λ i l. rw (lt-ltb i 8 l) (lit≤ tt)))
 
 pub long-frames : LongFrames
-long-frames = correction 7 longColumns (good 32 7 (le-refl 32) (λ i l. picked (λ (x : ℕ). x ≤ 7) (ltb i 8) (lit≤ tt) (le-refl 7)))
+long-frames = correction _ _ (good 32 _ (lit≤ tt) (λ i l. picked (λ (x : ℕ). x ≤ 7) (ltb i 8) (lit≤ tt) (lit≤ tt)))
 
 pub odd-but-no-bit : OddButNoBit
 unfolding bySyndrome firstFrom decodeWord ones

@@ -57,27 +57,61 @@ pub record GoodColumns (w : ℕ) (columns : List ℕ) : Type 0 where
   pub three : (i : ℕ) → i < length columns → 3 ≤ ones (getD columns i 0)
   pub distinct : (i k : ℕ) → i < length columns → k < length columns → getD columns i 0 ≡ getD columns k 0 → i ≡ k
 
--- what the decoder answers, and what its answer means, for w check bits
-pub record Corrects (w : ℕ) (columns : List ℕ) : Type 0 where
-  -- a check number has w bits
-  pub check-fits : (d : ℕ) → checkNumber columns d < 2 ^ w
-  -- an encoded word is clean
-  pub clean : (d : ℕ) → decoded columns (encoded columns d) ≡ Word d false None
-  -- one protected bit flipped: the data come back, and the bit is named
-  pub one-flip : (d : ℕ) (p : WrongBit) → Protected (length columns) w p → decoded columns (flip p (encoded columns d)) ≡ Word d true p
-  -- two different protected bits flipped: uncorrectable
-  pub two-flips : (d : ℕ) (p q : WrongBit) → Protected (length columns) w p → Protected (length columns) w q → p ≢ q
-      → decoded columns (flip q (flip p (encoded columns d))) ≡ Uncorrectable
-  -- conversely, data d and bit p are answered only of the encoding of d with exactly that bit flipped, none if clean; the flag says which
-  pub answered : (word : Coded) → word .check < 2 ^ w → (d : ℕ) (flag : Bool) (p : WrongBit) → decoded columns word ≡ Word d flag p
-      → (word ≡ flip p (encoded columns d)) × (flag ≡ flagOf p) × AtMostOne (length columns) w p
-  -- and uncorrectable is answered exactly where no encoded word is within one flip
-  pub uncorrectable : (word : Coded) → word .check < 2 ^ w
-      → (decoded columns word ≡ Uncorrectable) ↔ ((d : ℕ) (p : WrongBit) → AtMostOne (length columns) w p → word ≢ flip p (encoded columns d))
-  -- the data answered have no more bits than the data received
-  pub data-fits : (word : Coded) → word .bits < 2 ^ length columns → (d : ℕ) (flag : Bool) (p : WrongBit) → decoded columns word ≡ Word d flag p
-      → d < 2 ^ length columns
+-- no encoded word is within one flip of this one
+abbrev pub NoneWithin : ℕ → List ℕ → Coded → Type 0
+NoneWithin w columns word = (d : ℕ) (p : WrongBit) → AtMostOne (length columns) w p → word ≢ flip p (encoded columns d)
 
--- the theorem, once over any width and any number of columns
+-- the word is the encoding of d with exactly bit p flipped, none if clean, and the flag says which
+pub record Explained (w : ℕ) (columns : List ℕ) (word : Coded) (d : ℕ) (flag : Bool) (p : WrongBit) : Type 0 where
+  pub word-is : word ≡ flip p (encoded columns d)
+  pub flag-is : flag ≡ flagOf p
+  pub bit : AtMostOne (length columns) w p
+
+-- ---- the facts, of w check bits and any columns
+
+-- an encoded word is clean
+abbrev pub Clean : List ℕ → Type 0
+Clean columns = (d : ℕ) → decoded columns (encoded columns d) ≡ Word d false None
+
+-- one protected bit flipped: the data come back, and the bit is named
+abbrev pub OneFlip : ℕ → List ℕ → Type 0
+OneFlip w columns = (d : ℕ) (p : WrongBit) → Protected (length columns) w p → decoded columns (flip p (encoded columns d)) ≡ Word d true p
+
+-- two different protected bits flipped: uncorrectable
+abbrev pub TwoFlips : ℕ → List ℕ → Type 0
+TwoFlips w columns =
+    (d : ℕ) (p q : WrongBit) → Protected (length columns) w p → Protected (length columns) w q → p ≢ q
+    → decoded columns (flip q (flip p (encoded columns d))) ≡ Uncorrectable
+
+-- conversely, an answer with data explains the word
+abbrev pub AnswerExplains : ℕ → List ℕ → Type 0
+AnswerExplains w columns =
+    (word : Coded) → word .check < 2 ^ w → (d : ℕ) (flag : Bool) (p : WrongBit) → decoded columns word ≡ Word d flag p
+    → Explained w columns word d flag p
+
+-- and uncorrectable is answered exactly where no encoded word is within one flip
+abbrev pub UncorrectableExactly : ℕ → List ℕ → Type 0
+UncorrectableExactly w columns = (word : Coded) → word .check < 2 ^ w → (decoded columns word ≡ Uncorrectable) ↔ NoneWithin w columns word
+
+-- a check number has w bits
+abbrev pub CheckFits : ℕ → List ℕ → Type 0
+CheckFits w columns = (d : ℕ) → checkNumber columns d < 2 ^ w
+
+-- the data answered have no more bits than there are columns, where the data received have not
+abbrev pub DataFits : List ℕ → Type 0
+DataFits columns =
+    (word : Coded) → word .bits < 2 ^ length columns → (d : ℕ) (flag : Bool) (p : WrongBit) → decoded columns word ≡ Word d flag p
+    → d < 2 ^ length columns
+
+pub record Corrects (w : ℕ) (columns : List ℕ) : Type 0 where
+  pub clean : Clean columns
+  pub one-flip : OneFlip w columns
+  pub two-flips : TwoFlips w columns
+  pub answer-explains : AnswerExplains w columns
+  pub uncorrectable-exactly : UncorrectableExactly w columns
+  pub check-fits : CheckFits w columns
+  pub data-fits : DataFits columns
+
+-- the theorem, once over any width, any number of columns and any good columns
 abbrev pub CorrectionTheorem : Type 0
 CorrectionTheorem = (w : ℕ) (columns : List ℕ) → GoodColumns w columns → Corrects w columns
