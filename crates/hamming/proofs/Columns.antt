@@ -1,14 +1,11 @@
--- Document 01's table follows its rule, so its columns are good. Assumes nothing.
+-- Document 01's table follows its rule. Assumes nothing.
 use mathlib.Core.Path.{_≡_, refl, sym, ap, _∙_}
 use mathlib.Core.Bool.{Bool, true, false≢true}
 use mathlib.Core.List.{List}
-use Prim.Native.Nat.{ℕ, _^_, _≤_, _<_}
-use native.Mathlib.Omega.{arith}
+use Prim.Native.Nat.{ℕ, _^_, _<_}
 use borrow.Author.Tests.{eqb-true, ltb-true}
-use lib.ListN.{length, take, getD}
-use lib.Seq.{getD-take, length-take-le}
+use lib.ListN.{getD}
 use lib.Count.{ones}
-use lib.Pow.{pow-mono}
 use Rattle.laws.specs.Tests.{every}
 use Rattle.laws.specs.Table.{testsFrom, everyEntry}
 use Rattle.laws.proofs.Tests.{test-at}
@@ -16,8 +13,7 @@ use Rattle.laws.proofs.Table.{entry}
 use Rattle.hamming.specs.declared.Found.{Found}
 use Rattle.hamming.specs.declared.Found.the-variants.{At, Nothing}
 use Rattle.hamming.specs.Code.{firstFrom, firstEqual}
-use Rattle.hamming.specs.Columns.{columnTable, widthAt, isAt, columnTests, ColumnFacts, TableFollowsRule, TableFacts}
-use Rattle.hamming.specs.Correction.{GoodColumns}
+use Rattle.hamming.specs.Columns.{columnTable, widthAt, isAt, columnTests, TableFollowsRule, TableFacts}
 
 pub table-follows-rule : TableFollowsRule
 unfolding everyEntry testsFrom every firstFrom ones
@@ -48,21 +44,3 @@ table-facts i h = record {
 
     same : {j k : ℕ} → At j ≡ At k → j ≡ k
     same e = cc
-
--- the first n columns are good for w check bits, where each of them fits
-pub good : (n w : ℕ) → n ≤ 32 → ((i : ℕ) → i < n → widthAt i ≤ w) → GoodColumns w (take n columnTable)
-good n w h fit = record {
-  fit = λ i l. rw (at i l) (omega (arith, facts i l .fits, pow-mono (fit i (below i l))));
-  odd = λ i l. rw (at i l) (omega (arith, facts i l .three));
-  three = λ i l. rw (at i l) (omega (arith, facts i l .three));
-  distinct = λ i k l m e. facts i l .distinct k (omega (arith, below k m)) (sym (at i l) ∙ e ∙ at k m);
-}
-  where
-    below : (i : ℕ) → i < length (take n columnTable) → i < n
-    below i l = omega (arith, length-take-le n columnTable h)
-
-    at : (i : ℕ) → i < length (take n columnTable) → getD (take n columnTable) i 0 ≡ getD columnTable i 0
-    at i l = getD-take n columnTable i 0 (below i l)
-
-    facts : (i : ℕ) → i < length (take n columnTable) → ColumnFacts i
-    facts i l = table-facts i (omega (arith, below i l))

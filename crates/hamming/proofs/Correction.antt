@@ -22,7 +22,7 @@ use Rattle.hamming.specs.declared.WrongBit.the-variants.{None, Check, Da
 use Rattle.hamming.specs.declared.Decoded.{Decoded}
 use Rattle.hamming.specs.declared.Decoded.the-variants.{Word, Uncorrectable}
 use Rattle.hamming.specs.Code.{checkNumber, syndrome, firstEqual, byColumn, bySyndrome, decodeWord}
-use Rattle.hamming.specs.Correction.{Coded, encoded, decoded, flip, Protected, AtMostOne, NoneWithin, flagOf, GoodColumns, OneFlip, TwoFlips, AnswerExplains, UncorrectableExactly, DataFits, CorrectionTheorem}
+use Rattle.hamming.specs.Correction.{Coded, encoded, decoded, flip, Protected, NoneOrProtected, flagOf, GoodColumns, NoneWithin, OneFlip, TwoFlips, AnswerWithin, UncorrectableExactly, DataFits, CorrectionTheorem}
 use Rattle.hamming.proofs.Linear.{check-xor, check-bit, check-fits}
 use Rattle.hamming.proofs.Search.{Searched, at, none, searched}
 
@@ -138,20 +138,20 @@ module _ (w : ℕ) (columns : List ℕ) (g : GoodColumns w columns) where
   mark-inj : (p q : WrongBit) → Named (length columns) p → Named (length columns) q → mark columns p ≡ mark columns q → p ≡ q
   mark-inj None None h k e = refl
   mark-inj None (Check j) h k e = absurd (omega (arith, pow-pos j))
-  mark-inj None (Data i) h k e = absurd (omega (arith, g .three i k, ap ones e, ones-zero))
+  mark-inj None (Data i) h k e = absurd (omega (arith, g .at-least-three i k, ap ones e, ones-zero))
   mark-inj (Check j) None h k e = absurd (omega (arith, pow-pos j))
   mark-inj (Check j) (Check l) h k e = ap Check (pow-inj j l e)
-  mark-inj (Check j) (Data i) h k e = absurd (omega (arith, g .three i k, ap ones e, ones-pow j))
-  mark-inj (Data i) None h k e = absurd (omega (arith, g .three i h, ap ones e, ones-zero))
-  mark-inj (Data i) (Check j) h k e = absurd (omega (arith, g .three i h, ap ones e, ones-pow j))
+  mark-inj (Check j) (Data i) h k e = absurd (omega (arith, g .at-least-three i k, ap ones e, ones-pow j))
+  mark-inj (Data i) None h k e = absurd (omega (arith, g .at-least-three i h, ap ones e, ones-zero))
+  mark-inj (Data i) (Check j) h k e = absurd (omega (arith, g .at-least-three i h, ap ones e, ones-pow j))
   mark-inj (Data i) (Data l) h k e = ap Data (g .distinct i l h k e)
 
-  at-most : (p : WrongBit) → Protected (length columns) w p → AtMostOne (length columns) w p
+  at-most : (p : WrongBit) → Protected (length columns) w p → NoneOrProtected (length columns) w p
   at-most None h = tt
   at-most (Check j) h = h
   at-most (Data i) h = h
 
-  named : (p : WrongBit) → AtMostOne (length columns) w p → Named (length columns) p
+  named : (p : WrongBit) → NoneOrProtected (length columns) w p → Named (length columns) p
   named None h = tt
   named (Check j) h = tt
   named (Data i) h = h
@@ -197,33 +197,30 @@ module _ (w : ℕ) (columns : List ℕ) (g : GoodColumns w columns) where
 
   -- a named bit of a word whose check number fits
   fits : (word : Coded) → word .check < 2 ^ w → (p : WrongBit) → Named (length columns) p → mark columns p ≡ syndromeOf columns word
-      → AtMostOne (length columns) w p
+      → NoneOrProtected (length columns) w p
   unfolding syndrome
   fits word h None n e = tt
   fits word h (Check j) n e =
       pow-below j w (rw e (xor-lt w (word .check) (checkNumber columns (word .bits)) h (check-fits w columns (word .bits) (g .fit))))
   fits word h (Data i) n e = n
 
-  answer-explains : AnswerExplains w columns
-  answer-explains word h d flag p told =
+  answer-within : AnswerWithin w columns
+  answer-within word h d flag p told =
       let a = answer columns word d flag p told in
-      record {
-        word-is = rw (a .data-is) (marked columns p word (a .mark-is));
-        flag-is = a .flag-is;
-        bit = fits word h p (a .bit-named) (a .mark-is);
-      }
+      (record { word-is = rw (a .data-is) (marked columns p word (a .mark-is)); bit = fits word h p (a .bit-named) (a .mark-is) }, a .flag-is)
 
   uncorrectable-exactly : UncorrectableExactly w columns
   uncorrectable-exactly word h = (far, λ nowhere. uncorrected nowhere (decoded columns word) (judged columns word))
     where
       far : decoded columns word ≡ Uncorrectable → NoneWithin w columns word
-      far told d p a e =
-          let answered : Uncorrectable ≡ Word d (flagOf p) p = sym told ∙ ap (decoded columns) e ∙ at-most-one d p (named p a) in
+      far told d p v =
+          let answered : Uncorrectable ≡ Word d (flagOf p) p = sym told ∙ ap (decoded columns) (v .word-is) ∙ at-most-one d p (named p (v .bit)) in
           let z : _≡_ {A = ℕ} 0 1 = cc in
           omega arith
 
       uncorrected : NoneWithin w columns word → (r : Decoded) → Judged columns word r → r ≡ Uncorrectable
-      uncorrected nowhere r (names p n e) = absurd (nowhere (flip p word .bits) p (fits word h p n e) (marked columns p word e))
+      uncorrected nowhere r (names p n e) =
+          absurd (nowhere (flip p word .bits) p (record { word-is = marked columns p word e; bit = fits word h p n e }))
       uncorrected nowhere r (names-none x) = refl
 
 data-fits : (columns : List ℕ) → DataFits columns
@@ -239,7 +236,7 @@ correction w columns g = record {
   clean = λ d. at-most-one w columns g d None tt;
   one-flip = one-flip w columns g;
   two-flips = two-flips w columns g;
-  answer-explains = answer-explains w columns g;
+  answer-within = answer-within w columns g;
   uncorrectable-exactly = uncorrectable-exactly w columns g;
   check-fits = λ d. check-fits w columns d (g .fit);
   data-fits = data-fits columns;

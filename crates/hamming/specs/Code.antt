@@ -1,4 +1,5 @@
 -- Document 01, "Frames on channel B": check number, syndrome, and what the decoder of a word answers, over any list of columns.
+-- The column of data bit i, "0 = least", stands at place i.
 use Prim.Native.Nat.{ℕ, suc, _/_, _%_, _^_}
 use mathlib.Core.Bool.{true, false, cond}
 use mathlib.Core.List.{List, [], _∷_}
@@ -13,7 +14,7 @@ use Rattle.hamming.specs.declared.WrongBit.the-variants.{None, Check, Da
 use Rattle.hamming.specs.declared.Decoded.{Decoded}
 use Rattle.hamming.specs.declared.Decoded.the-variants.{Word, Uncorrectable}
 
--- the columns of a lent table that are in use: the code's words have 32 bits
+-- the columns in use of a lent table: all of it, or the first 32, since the functions take 32 bits of data
 abbrev pub inUse : List ℕ → List ℕ
 inUse columns = take 32 columns
 

@@ -15,7 +15,10 @@ use Rattle.hamming.specs.Code.{firstEqual}
 -- "each data bit i (0 = least) has a column number"; "Columns for bits 0..31"
 abbrev pub columnTable : List ℕ
 columnTable =
-    7 ∷ 11 ∷ 13 ∷ 14 ∷ 19 ∷ 21 ∷ 22 ∷ 25 ∷ 26 ∷ 28 ∷ 35 ∷ 37 ∷ 38 ∷ 41 ∷ 42 ∷ 44 ∷ 49 ∷ 50 ∷ 52 ∷ 56 ∷ 67 ∷ 69 ∷ 70 ∷ 73 ∷ 74 ∷ 76 ∷ 81 ∷ 82 ∷ 84 ∷ 88 ∷ 97 ∷ 98 ∷ []
+    7 ∷ 11 ∷ 13 ∷ 14 ∷ 19 ∷ 21 ∷ 22 ∷ 25
+    ∷ 26 ∷ 28 ∷ 35 ∷ 37 ∷ 38 ∷ 41 ∷ 42 ∷ 44
+    ∷ 49 ∷ 50 ∷ 52 ∷ 56 ∷ 67 ∷ 69 ∷ 70 ∷ 73
+    ∷ 74 ∷ 76 ∷ 81 ∷ 82 ∷ 84 ∷ 88 ∷ 97 ∷ 98 ∷ []
 
 -- "the short frame uses the first eight"
 abbrev pub shortColumns : List ℕ

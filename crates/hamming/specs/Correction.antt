@@ -1,4 +1,5 @@
--- What the code corrects, over any good columns: every answer about damaged frames rests on this. Proved in proofs/Correction.antt.
+-- What the code corrects, over any good columns: every answer about damaged frames depends on this. Proved in proofs/Correction.antt.
+-- It is a code with columns of odd weight (Hsiao): it corrects one wrong bit and detects two.
 use Prim.Native.Nat.{ℕ, _%_, _^_, _≤_, _<_}
 use mathlib.Core.Path.{_≡_}
 use mathlib.Core.Bool.{Bool, true, false}
@@ -22,11 +23,11 @@ pub record Coded : Type 0 where
 abbrev pub encoded : List ℕ → ℕ → Coded
 encoded columns d = record { bits = d; check = checkNumber columns d }
 
--- a word as the decoder answers it
+-- what the decoder answers of a received word
 abbrev pub decoded : List ℕ → Coded → Decoded
 decoded columns word = decodeWord columns (word .bits) (word .check)
 
--- the word with that bit flipped
+-- the word with that bit flipped; `None` flips nothing
 abbrev pub flip : WrongBit → Coded → Coded
 flip None word = word
 flip (Check j) word = record { bits = word .bits; check = bitXor (word .check) (2 ^ j) }
@@ -38,13 +39,12 @@ Protected n w None = ⊥
 Protected n w (Check j) = j < w
 Protected n w (Data i) = i < n
 
--- no bit, or a protected one
-abbrev pub AtMostOne : ℕ → ℕ → WrongBit → Type 0
-AtMostOne n w None = Unit {0}
-AtMostOne n w (Check j) = Protected n w (Check j)
-AtMostOne n w (Data i) = Protected n w (Data i)
+abbrev pub NoneOrProtected : ℕ → ℕ → WrongBit → Type 0
+NoneOrProtected n w None = Unit {0}
+NoneOrProtected n w (Check j) = Protected n w (Check j)
+NoneOrProtected n w (Data i) = Protected n w (Data i)
 
--- the flag "corrected"
+-- the corrected flag
 abbrev pub flagOf : WrongBit → Bool
 flagOf None = false
 flagOf (Check j) = true
@@ -54,18 +54,17 @@ flagOf (Data i) = true
 pub record GoodColumns (w : ℕ) (columns : List ℕ) : Type 0 where
   pub fit : (i : ℕ) → i < length columns → getD columns i 0 < 2 ^ w
   pub odd : (i : ℕ) → i < length columns → ones (getD columns i 0) % 2 ≡ 1
-  pub three : (i : ℕ) → i < length columns → 3 ≤ ones (getD columns i 0)
+  pub at-least-three : (i : ℕ) → i < length columns → 3 ≤ ones (getD columns i 0)
   pub distinct : (i k : ℕ) → i < length columns → k < length columns → getD columns i 0 ≡ getD columns k 0 → i ≡ k
 
--- no encoded word is within one flip of this one
-abbrev pub NoneWithin : ℕ → List ℕ → Coded → Type 0
-NoneWithin w columns word = (d : ℕ) (p : WrongBit) → AtMostOne (length columns) w p → word ≢ flip p (encoded columns d)
-
--- the word is the encoding of d with exactly bit p flipped, none if clean, and the flag says which
-pub record Explained (w : ℕ) (columns : List ℕ) (word : Coded) (d : ℕ) (flag : Bool) (p : WrongBit) : Type 0 where
+-- the word is within one flip of the encoding of d: it is that encoding with bit p flipped, which is none or a protected one
+pub record Within (w : ℕ) (columns : List ℕ) (word : Coded) (d : ℕ) (p : WrongBit) : Type 0 where
   pub word-is : word ≡ flip p (encoded columns d)
-  pub flag-is : flag ≡ flagOf p
-  pub bit : AtMostOne (length columns) w p
+  pub bit : NoneOrProtected (length columns) w p
+
+-- no encoded word is within one flip
+abbrev pub NoneWithin : ℕ → List ℕ → Coded → Type 0
+NoneWithin w columns word = (d : ℕ) (p : WrongBit) → Within w columns word d p → ⊥
 
 -- ---- the facts, of w check bits and any columns
 
@@ -83,21 +82,22 @@ TwoFlips w columns =
     (d : ℕ) (p q : WrongBit) → Protected (length columns) w p → Protected (length columns) w q → p ≢ q
     → decoded columns (flip q (flip p (encoded columns d))) ≡ Uncorrectable
 
--- conversely, an answer with data explains the word
-abbrev pub AnswerExplains : ℕ → List ℕ → Type 0
-AnswerExplains w columns =
+-- conversely, of a received word whose check number is below 2 ^ w: data d and bit p are answered only if the word is the encoding of d with
+-- exactly that bit flipped, none if clean; and the flag says whether there is one
+abbrev pub AnswerWithin : ℕ → List ℕ → Type 0
+AnswerWithin w columns =
     (word : Coded) → word .check < 2 ^ w → (d : ℕ) (flag : Bool) (p : WrongBit) → decoded columns word ≡ Word d flag p
-    → Explained w columns word d flag p
+    → Within w columns word d p × (flag ≡ flagOf p)
 
--- and uncorrectable is answered exactly where no encoded word is within one flip
+-- and of such a word, uncorrectable is answered exactly when no encoded word is within one flip
 abbrev pub UncorrectableExactly : ℕ → List ℕ → Type 0
 UncorrectableExactly w columns = (word : Coded) → word .check < 2 ^ w → (decoded columns word ≡ Uncorrectable) ↔ NoneWithin w columns word
 
--- a check number has w bits
+-- a check number is below 2 ^ w
 abbrev pub CheckFits : ℕ → List ℕ → Type 0
 CheckFits w columns = (d : ℕ) → checkNumber columns d < 2 ^ w
 
--- the data answered have no more bits than there are columns, where the data received have not
+-- with n columns: if the data received are below 2 ^ n, so are the data answered
 abbrev pub DataFits : List ℕ → Type 0
 DataFits columns =
     (word : Coded) → word .bits < 2 ^ length columns → (d : ℕ) (flag : Bool) (p : WrongBit) → decoded columns word ≡ Word d flag p
@@ -107,7 +107,7 @@ pub record Corrects (w : ℕ) (columns : List ℕ) : Type 0 where
   pub clean : Clean columns
   pub one-flip : OneFlip w columns
   pub two-flips : TwoFlips w columns
-  pub answer-explains : AnswerExplains w columns
+  pub answer-within : AnswerWithin w columns
   pub uncorrectable-exactly : UncorrectableExactly w columns
   pub check-fits : CheckFits w columns
   pub data-fits : DataFits columns

@@ -5,13 +5,19 @@ use mathlib.Core.Logic.{_⊎_}
 use Rattle.hamming.specs.declared.Decoded.the-variants.{Uncorrectable}
 use Rattle.hamming.specs.Code.{syndrome, decodeWord}
 use Rattle.hamming.specs.Columns.{shortColumns, longColumns}
-use Rattle.hamming.specs.Correction.{Corrects}
+use Rattle.hamming.specs.Correction.{GoodColumns, Corrects}
 
--- a short frame: 8 data bits, 5 check bits
+-- a short frame: "8 data bits, 5 check bits"
+abbrev pub ShortColumnsGood : Type 0
+ShortColumnsGood = GoodColumns 5 shortColumns
+
 abbrev pub ShortFrames : Type 0
 ShortFrames = Corrects 5 shortColumns
 
--- a long frame: 32 data bits, 7 check bits
+-- a long frame: "32 word bits, 7 check bits"
+abbrev pub LongColumnsGood : Type 0
+LongColumnsGood = GoodColumns 7 longColumns
+
 abbrev pub LongFrames : Type 0
 LongFrames = Corrects 7 longColumns
 

@@ -1,6 +1,7 @@
 // Document 01, "Frames on channel B": the check bits of a word, over any table of columns.
 //
-// A word is two numbers, so it goes by value; a table is only read, so it is lent.
+// There is no state. A received word is two numbers, data and check number, and goes by value; a
+// table of columns is only read, and is lent.
 ghost use mathlib.Core.Path.{_≡_};
 ghost use Prim.Native.Nat.{_<_, _^_};
 ghost use lib.Bits.{bitXor};
@@ -13,14 +14,14 @@ pub enum Found {
     Nothing,
 }
 
-// Which bit of a received word was wrong.
+// Which bit of a received word the decoder finds wrong.
 pub enum WrongBit {
     None,
     Check(usize),
     Data(usize),
 }
 
-// What the decoder of a word answers.
+// What the decoder of a word answers: the data, corrected where a bit was wrong; or nothing.
 pub enum Decoded {
     Word {
         data: u32,
@@ -66,13 +67,14 @@ const COLUMNS: [u8; 32] = [
     98,
 ];
 
+// The table, for callers to lend: the eight of a short frame are `&table[..8]`.
 pub fn column_table() -> [u8; 32]
     ensures { λ r. ⌜ r ≡ columnTable ⌝ }
 {
     COLUMNS
 }
 
-// A word has 32 bits: columns beyond are not in use.
+// The data have 32 bits, so columns beyond are not in use.
 fn in_use(columns: &[u8]) -> &[u8]
     ensures { λ r. ⌜ now r ≡ inUse (now (columns .entry)) ⌝ }
 {
@@ -117,6 +119,7 @@ pub fn find_column(columns: &[u8], syndrome: u8) -> Found
     }
 }
 
+// The data with that bit flipped.
 fn flip_bit(data: u32, at: usize) -> u32
     requires { ⌜ at < 32 ⌝ }
     ensures { λ r. ⌜ r ≡ bitXor «data» (2 ^ at) ⌝ }
@@ -124,7 +127,7 @@ fn flip_bit(data: u32, at: usize) -> u32
     data ^ (1u32 << at)
 }
 
-// What the syndrome says of the received data.
+// What the syndrome says of the received data, in document 01's order.
 fn by_syndrome(columns: &[u8], data: u32, syndrome: u8) -> Decoded
     ensures { λ r. ⌜ r ≡ bySyndrome (inUse (now (columns .entry))) «data» syndrome ⌝ }
 {

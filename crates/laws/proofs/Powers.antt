@@ -42,14 +42,14 @@ below-itself : (j : ℕ) → j < 2 ^ j
 below-itself zero = omega arith
 below-itself (suc j) = omega (arith, pow-suc 2 j, below-itself j)
 
-pub trailing-pow : (k j : ℕ) → j < k → trailingZeros k (2 ^ j) ≡ j
+trailing-pow : (k j : ℕ) → j < k → trailingZeros k (2 ^ j) ≡ j
 unfolding trailingZeros
 trailing-pow zero j h = absurd (not-suc-le-zero h)
 trailing-pow (suc k) zero h = refl
 trailing-pow (suc k) (suc j) h =
     ap₂ (λ (b n : ℕ). under b (trailingZeros k n)) (pow-even j) (pow-half j) ∙ ap suc (trailing-pow k j (omega arith))
 
-pub lowest-pow : (j : ℕ) → lowestOne (2 ^ j) ≡ j
+lowest-pow : (j : ℕ) → lowestOne (2 ^ j) ≡ j
 unfolding lowestOne
 lowest-pow j = trailing-pow (2 ^ j) j (below-itself j)
 
