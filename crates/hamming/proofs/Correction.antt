@@ -201,7 +201,7 @@ module _ (w : ℕ) (columns : List ℕ) (g : GoodColumns w columns) where
   unfolding syndrome
   fits word h None n e = tt
   fits word h (Check j) n e =
-      pow-below j w (rw e (xor-lt w (word .check) (checkNumber columns (word .bits)) h (check-fits w columns (word .bits) (g .fit))))
+      pow-below j w (rw e (xor-lt w (word .check) (checkNumber columns (word .bits)) h (check-fits w columns (g .fit) (word .bits))))
   fits word h (Data i) n e = n
 
   answer-within : AnswerWithin w columns
@@ -238,6 +238,6 @@ correction w columns g = record {
   two-flips = two-flips w columns g;
   answer-within = answer-within w columns g;
   uncorrectable-exactly = uncorrectable-exactly w columns g;
-  check-fits = λ d. check-fits w columns d (g .fit);
+  check-fits = check-fits w columns (g .fit);
   data-fits = data-fits columns;
 }

@@ -12,6 +12,7 @@ use Rattle.laws.proofs.Rules.{picked}
 use Rattle.laws.proofs.Xor.{xor-half, xor-low, xor-swap}
 use Rattle.laws.proofs.Powers.{pow-half, pow-even}
 use Rattle.hamming.specs.Code.{checkNumber}
+use Rattle.hamming.specs.Correction.{CheckFits}
 
 -- the column of a bit that is 1
 abbrev column : ℕ → ℕ → ℕ
@@ -53,10 +54,10 @@ check-bit (c ∷ cs) (suc i) =
     ap₂ (λ (x y : ℕ). bitXor (column x c) (checkNumber cs y)) (pow-even i) (pow-half i) ∙ check-bit cs i
 
 -- it fits where the columns do
-pub check-fits : (w : ℕ) (columns : List ℕ) (d : ℕ) → ((i : ℕ) → i < length columns → getD columns i 0 < 2 ^ w) → checkNumber columns d < 2 ^ w
+pub check-fits : (w : ℕ) (columns : List ℕ) → ((i : ℕ) → i < length columns → getD columns i 0 < 2 ^ w) → CheckFits w columns
 unfolding checkNumber
-check-fits w [] d h = pow-pos w
-check-fits w (c ∷ cs) d h =
+check-fits w [] h d = pow-pos w
+check-fits w (c ∷ cs) h d =
     xor-lt w (column (d % 2) c) (checkNumber cs (d / 2))
     (picked (λ (x : ℕ). x < 2 ^ w) (eqb (d % 2) 1) (h zero (omega arith)) (pow-pos w))
-    (check-fits w cs (d / 2) (λ i l. h (suc i) (omega arith)))
+    (check-fits w cs (λ i l. h (suc i) (omega arith)) (d / 2))

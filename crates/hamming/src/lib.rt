@@ -21,7 +21,8 @@ pub enum WrongBit {
     Data(usize),
 }
 
-// What the decoder of a word answers: the data, corrected where a bit was wrong; or nothing.
+// What the decoder of a word answers: the data, the corrected flag (set for a wrong check bit too)
+// and the wrong bit; or that the word can't be corrected.
 pub enum Decoded {
     Word {
         data: u32,
@@ -102,7 +103,7 @@ pub fn check_number(columns: &[u8], data: u32) -> u8
     check
 }
 
-// The first column that equals the syndrome.
+// The bit of the first column in use that equals the syndrome, or none.
 pub fn find_column(columns: &[u8], syndrome: u8) -> Found
     ensures { λ r. ⌜ r ≡ firstEqual (inUse (now (columns .entry))) syndrome ⌝ }
 {
