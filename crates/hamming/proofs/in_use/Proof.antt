@@ -9,7 +9,7 @@ returns : tie.Need-returns
 returns c = sym (take-all 32 _ (c .if1 .taken))
 
 slice-aggregate-result : tie.Need-slice-aggregate-result
-slice-aggregate-result c = sym (length-take-le 32 (c .before .before .args .columns .now) (search needs))
+slice-aggregate-result c = sym (length-take-le _ (c .before .before .args .columns .now) (search needs))
 
 returns-2 : tie.Need-returns-2
 returns-2 c = search needs
