@@ -1,10 +1,11 @@
 -- Laws of the exclusive-or that the library leaves out. Each goes by the lowest bit and the rest. Assumes nothing.
 use mathlib.Core.Path.{_≡_, refl, sym, ap, ap₂, _∙_}
-use Prim.Native.Nat.{ℕ, zero, suc, _+_, _*_, _/_, _%_, _<_}
-use native.Mathlib.Nat.{add-assoc}
+use Prim.Native.Nat.{ℕ, zero, suc, _+_, _*_, _/_, _%_, _^_, _<_}
+use native.Mathlib.Nat.{add-zero, zero-add, add-assoc, zero-mul, mul-comm}
 use native.Mathlib.Omega.{arith}
 use lib.Arith.{bin-ind}
-use lib.Bits.{bitXor, differ, xor-step, xor-shr, xor-comm, xor-self, xor-zero-r}
+use lib.Bits.{bitXor, differ, xor-step, xor-shr, xor-comm, xor-self, xor-zero-r, xor-block}
+use lib.Pow.{pow-pos, pow-lt, pow-add}
 use lib.Count.{ones, ones-step}
 
 -- ---- the lowest bit and the rest
@@ -81,3 +82,19 @@ ones-xor =
   where
     digits : (p q x y : ℕ) → ((p + q) % 2 + (x + y)) % 2 ≡ ((p % 2 + x) + (q % 2 + y)) % 2
     digits p q x y = omega arith
+
+-- ---- one bit flipped in a number of a high part and k low bits
+
+-- a low one
+pub xor-low-bit : (k hi lo j : ℕ) → lo < 2 ^ k → j < k → bitXor (hi * 2 ^ k + lo) (2 ^ j) ≡ hi * 2 ^ k + bitXor lo (2 ^ j)
+xor-low-bit k hi lo j h l =
+    ap (bitXor (hi * 2 ^ k + lo)) (sym (zero-add (2 ^ j)) ∙ ap (λ (x : ℕ). x + 2 ^ j) (sym (zero-mul (2 ^ k))))
+    ∙ xor-block k hi 0 lo (2 ^ j) h (pow-lt l)
+    ∙ ap (λ (x : ℕ). x * 2 ^ k + bitXor lo (2 ^ j)) (xor-zero-r hi)
+
+-- a bit of the high part
+pub xor-high-bit : (k hi lo i : ℕ) → lo < 2 ^ k → bitXor (hi * 2 ^ k + lo) (2 ^ (k + i)) ≡ bitXor hi (2 ^ i) * 2 ^ k + lo
+xor-high-bit k hi lo i h =
+    ap (bitXor (hi * 2 ^ k + lo)) (pow-add 2 k i ∙ mul-comm (2 ^ k) (2 ^ i) ∙ sym (add-zero (2 ^ i * 2 ^ k)))
+    ∙ xor-block k hi (2 ^ i) lo 0 h (pow-pos k)
+    ∙ ap (λ (x : ℕ). bitXor hi (2 ^ i) * 2 ^ k + x) (xor-zero-r lo)

@@ -1,0 +1,217 @@
+-- What decoding answers to a frame that was encoded, and conversely, from the facts of the code. Assumes nothing.
+use mathlib.Core.Path.{_≡_, refl, sym, ap, ap₂, _∙_, subst, subst⁻¹}
+use mathlib.Core.Bool.{Bool, true, false, cond}
+use mathlib.Core.List.{List}
+use Prim.Native.Nat.{ℕ, _^_, _<_}
+use native.Mathlib.Omega.{arith}
+use borrow.Author.Tests.{le-ltb, eqb-false}
+use lib.Dec.{eqb}
+use lib.ListN.{length}
+use Rattle.hamming.specs.declared.WrongBit.{WrongBit}
+use Rattle.hamming.specs.declared.WrongBit.the-variants.{None, Check, Data}
+use Rattle.hamming.specs.declared.Decoded.{Decoded}
+use Rattle.hamming.specs.declared.Decoded.the-variants.{Word, Uncorrectable as NoWord}
+use Rattle.hamming.specs.Columns.{shortColumns, longColumns}
+use Rattle.hamming.specs.Correction.{Coded, encoded, decoded, flip, Protected, NoneOrProtected, flagOf, Within, Corrects}
+use Rattle.hamming.proofs.Correction.{correction}
+use Rattle.hamming.proofs.Uses.{short-columns-good, long-columns-good}
+use Rattle.frame.specs.declared.Kind.{Kind}
+use Rattle.frame.specs.declared.Kind.the-variants.{Short, Long}
+use Rattle.frame.specs.declared.Fields.{Fields}
+use Rattle.frame.specs.declared.Judged.{Judged}
+use Rattle.frame.specs.declared.Judged.the-variants.{StopZero, Uncorrectable, FixedZero, Good}
+use Rattle.frame.specs.declared.Answer.{Answer}
+use Rattle.frame.specs.Numbers.{dataBits, checkBits, frameNumber, stopBit, received, isFrame}
+use Rattle.frame.specs.Encode.{wordOf, fieldsOf, encodeWord, encodeLong}
+use Rattle.frame.specs.Decode.{fixedZero, judgedWord, judged, bareAnswer, answerTo, decodeFrame}
+use Rattle.frame.specs.Frames
+use Rattle.frame.proofs.Numbers.{Fits, stop-of, received-of, is-frame-of, received-fits, made-of-received, flipped, flipped-fits, stop-flipped}
+use Rattle.frame.proofs.Words.{not-zero, fields-back, word-fits, fixed-one, word-back, fields-in-range}
+
+pub encodes-in-range : (columns : List ℕ) → Frames.EncodesInRange columns
+unfolding encodeLong
+encodes-in-range columns fields r = rw (le-ltb 16383 (fields .address) (omega arith), le-ltb 1 (fields .e) (omega arith))
+
+-- ---- a frame number as it was put together
+
+judged-sent : (columns : List ℕ) (kind : Kind) (sent : Coded) → Fits kind sent
+    → judged columns kind (frameNumber kind sent 1) ≡ judgedWord kind (decoded columns sent)
+unfolding judged
+judged-sent columns kind sent f =
+    rw (stop-of kind sent 1 (omega arith)) (ap (λ (c : Coded). judgedWord kind (decoded columns c)) (received-of kind sent 1 (omega arith) f))
+
+decode-sent : (columns : List ℕ) (kind : Kind) (sent : Coded) → Fits kind sent
+    → decodeFrame columns kind (frameNumber kind sent 1) ≡ answerTo kind (judgedWord kind (decoded columns sent))
+unfolding decodeFrame
+decode-sent columns kind sent f = rw (is-frame-of kind sent 1 (omega arith) f, judged-sent columns kind sent f)
+
+decode-stopless : (columns : List ℕ) (kind : Kind) (sent : Coded) → Fits kind sent → decodeFrame columns kind (frameNumber kind sent 0) ≡ bareAnswer 0 7 0
+unfolding decodeFrame judged
+decode-stopless columns kind sent f = rw (is-frame-of kind sent 0 (omega arith) f, stop-of kind sent 0 (omega arith))
+
+-- the answer to a decoded word of fields in range
+answer-good : (kind : Kind) (fields : Fields) (flag : Bool) (p : WrongBit) → Frames.InRange kind fields
+    → answerTo kind (judgedWord kind (Word (wordOf kind fields) flag p)) ≡ Frames.fieldsAnswer kind (cond flag 1 0) fields
+answer-good kind fields flag p r = rw (fixed-one kind fields r, fields-back kind fields r)
+
+none-or : (n w : ℕ) (p : WrongBit) → Protected n w p → NoneOrProtected n w p
+none-or n w None b = absurd b
+none-or n w (Check j) b = b
+none-or n w (Data i) b = b
+
+-- ---- conversely: what led to an answer
+
+-- the fields are answered only to a good frame
+record Answered (columns : List ℕ) (kind : Kind) (number flag word : ℕ) (fields : Fields) : Type 0 where
+  pub is-frame : isFrame kind number ≡ true
+  pub raised : Bool
+  pub wrong : WrongBit
+  pub judged-good : judged columns kind number ≡ Good word raised wrong
+  pub flag-of : flag ≡ cond raised 1 0
+  pub fields-of : fields ≡ fieldsOf kind word
+
+abbrev told : ℕ → ℕ → Fields → Answer
+told flag word fields = record { refusal = 0; verdict = 0; corrected = flag; word = word; fields = fields }
+
+answered : (columns : List ℕ) (kind : Kind) (number flag word : ℕ) (fields : Fields) → decodeFrame columns kind number ≡ told flag word fields
+    → Answered columns kind number flag word fields
+unfolding decodeFrame
+answered columns kind number flag word fields = by-frame (isFrame kind number) refl
+  where
+    by-judged : isFrame kind number ≡ true → (j : Judged) → judged columns kind number ≡ j → answerTo kind j ≡ told flag word fields
+        → Answered columns kind number flag word fields
+    by-judged i StopZero e a = let z : _≡_ {A = ℕ} 7 0 = ap (λ (x : Answer). x .verdict) a in absurd (omega arith)
+    by-judged i Uncorrectable e a = let z : _≡_ {A = ℕ} 8 0 = ap (λ (x : Answer). x .verdict) a in absurd (omega arith)
+    by-judged i (FixedZero w) e a = let z : _≡_ {A = ℕ} 9 0 = ap (λ (x : Answer). x .verdict) a in absurd (omega arith)
+    by-judged i (Good w raised wrong) e a =
+        let same : w ≡ word = ap (λ (x : Answer). x .word) a in
+        record {
+          is-frame = i;
+          raised = raised;
+          wrong = wrong;
+          judged-good = e ∙ ap (λ (x : ℕ). Good x raised wrong) same;
+          flag-of = sym (ap (λ (x : Answer). x .corrected) a);
+          fields-of = sym (ap (λ (x : Answer). x .fields) a) ∙ ap (fieldsOf kind) same;
+        }
+
+    by-frame : (b : Bool) → isFrame kind number ≡ b → cond b (answerTo kind (judged columns kind number)) (bareAnswer 12 0 0) ≡ told flag word fields
+        → Answered columns kind number flag word fields
+    by-frame true i a = by-judged i (judged columns kind number) refl a
+    by-frame false i a = let z : _≡_ {A = ℕ} 12 0 = ap (λ (x : Answer). x .refusal) a in absurd (omega arith)
+
+-- a frame is good only if its stop bit is 1, its word is decoded, and the fixed bit is not 0
+record GoodFrame (columns : List ℕ) (kind : Kind) (number word : ℕ) (raised : Bool) (wrong : WrongBit) : Type 0 where
+  pub stop-one : stopBit number ≡ 1
+  pub word-decoded : decoded columns (received kind number) ≡ Word word raised wrong
+  pub fixed-not-zero : fixedZero kind word ≡ false
+
+good-frame : (columns : List ℕ) (kind : Kind) (number word : ℕ) (raised : Bool) (wrong : WrongBit) → judged columns kind number ≡ Good word raised wrong
+    → GoodFrame columns kind number word raised wrong
+unfolding judged
+good-frame columns kind number word raised wrong = by-stop (eqb (stopBit number) 0) refl
+  where
+    by-fixed : stopBit number ≡ 1 → (w : ℕ) (r : Bool) (p : WrongBit) → decoded columns (received kind number) ≡ Word w r p
+        → (b : Bool) → fixedZero kind w ≡ b → cond b (FixedZero w) (Good w r p) ≡ Good word raised wrong → GoodFrame columns kind number word raised wrong
+    by-fixed s w r p e true z g = absurd (let no-way : _≡_ {A = ℕ} 0 1 = cc in omega arith)
+    by-fixed s w r p e false z g =
+        let same : w ≡ word = cc in
+        let decoded-same : Word w r p ≡ Word word raised wrong = cc in
+        record { stop-one = s; word-decoded = e ∙ decoded-same; fixed-not-zero = rw same at z }
+
+    by-decoded : stopBit number ≡ 1 → (d : Decoded) → decoded columns (received kind number) ≡ d → judgedWord kind d ≡ Good word raised wrong
+        → GoodFrame columns kind number word raised wrong
+    by-decoded s (Word w r p) e g = by-fixed s w r p e (fixedZero kind w) refl g
+    by-decoded s NoWord e g = absurd (let no-way : _≡_ {A = ℕ} 0 1 = cc in omega arith)
+
+    by-stop : (t : Bool) → eqb (stopBit number) 0 ≡ t → cond t StopZero (judgedWord kind (decoded columns (received kind number))) ≡ Good word raised wrong
+        → GoodFrame columns kind number word raised wrong
+    by-stop true s g = absurd (let no-way : _≡_ {A = ℕ} 0 1 = cc in omega arith)
+    by-stop false s g = by-decoded (not-zero number (eqb-false (stopBit number) 0 s)) (decoded columns (received kind number)) refl g
+
+-- ---- the theorem
+
+pub frame-theorem : Frames.FrameTheorem
+frame-theorem columns kind len good = record {
+  round-trip = λ fields r. decode-sent columns kind (sent fields) (fits fields r) ∙ ap answer (corrects .clean (wordOf kind fields)) ∙ answer-good kind fields false None r;
+  one-flip =
+      λ fields p r b.
+      ap (decodeFrame columns kind) (flipped kind (sent fields) 1 p (omega arith) (fits fields r) (none-or _ _ p b))
+      ∙ decode-sent columns kind (flip p (sent fields)) (flipped-fits kind (sent fields) p (fits fields r) (none-or _ _ p b))
+      ∙ ap answer (corrects .one-flip (wordOf kind fields) p (in-columns p b)) ∙ answer-good kind fields true p r;
+  two-flips =
+      λ fields p q r b d ne.
+      let f = flipped-fits kind (sent fields) p (fits fields r) (none-or _ _ p b) in
+      ap (λ (n : ℕ). decodeFrame columns kind (Frames.flipProtected kind q n)) (flipped kind (sent fields) 1 p (omega arith) (fits fields r) (none-or _ _ p b))
+      ∙ ap (decodeFrame columns kind) (flipped kind (flip p (sent fields)) 1 q (omega arith) f (none-or _ _ q d))
+      ∙ decode-sent columns kind (flip q (flip p (sent fields))) (flipped-fits kind (flip p (sent fields)) q f (none-or _ _ q d))
+      ∙ ap answer (corrects .two-flips (wordOf kind fields) p q (in-columns p b) (in-columns q d) ne);
+  stop-flip =
+      λ fields r. ap (decodeFrame columns kind) (stop-flipped kind (sent fields)) ∙ decode-stopless columns kind (sent fields) (fits fields r);
+  decoded-only-if = only-if;
+}
+  where
+    corrects : Corrects (checkBits kind) columns
+    corrects = correction (checkBits kind) columns good
+
+    sent : Fields → Coded
+    sent fields = encoded columns (wordOf kind fields)
+
+    answer : Decoded → Answer
+    answer d = answerTo kind (judgedWord kind d)
+
+    fits-word : (word : ℕ) → word < 2 ^ dataBits kind → Fits kind (encoded columns word)
+    fits-word word h = record { bits-fit = h; check-fits = corrects .check-fits word }
+
+    fits : (fields : Fields) → Frames.InRange kind fields → Fits kind (sent fields)
+    fits fields r = fits-word (wordOf kind fields) (word-fits kind fields r)
+
+    in-columns : (p : WrongBit) → Frames.ProtectedIn kind p → Protected (length columns) (checkBits kind) p
+    in-columns p b = subst⁻¹ (λ (n : ℕ). Protected n (checkBits kind) p) len b
+
+    only-if : Frames.DecodedOnlyIf columns kind
+    only-if number flag word fields e = (wrong-bit, encoding)
+      where
+        a : Answered columns kind number flag word fields
+        a = answered columns kind number flag word fields e
+
+        wrong-bit : WrongBit
+        wrong-bit = a .wrong
+
+        g : GoodFrame columns kind number word (a .raised) (a .wrong)
+        g = good-frame columns kind number word (a .raised) (a .wrong) (a .judged-good)
+
+        within : Within (checkBits kind) columns (received kind number) word (a .wrong) × (a .raised ≡ flagOf (a .wrong))
+        within = corrects .answer-within (received kind number) (received-fits kind number .check-fits) word (a .raised) (a .wrong) (g .word-decoded)
+
+        word-below : word < 2 ^ dataBits kind
+        word-below =
+            subst (λ (n : ℕ). word < 2 ^ n) len
+            (corrects .data-fits (received kind number) (subst⁻¹ (λ (n : ℕ). received kind number .bits < 2 ^ n) len (received-fits kind number .bits-fit))
+            word (a .raised) (a .wrong) (g .word-decoded))
+
+        protected : NoneOrProtected (dataBits kind) (checkBits kind) (a .wrong)
+        protected = subst (λ (n : ℕ). NoneOrProtected n (checkBits kind) (a .wrong)) len (within .0 .bit)
+
+        word-of : word ≡ wordOf kind fields
+        word-of = sym (ap (wordOf kind) (a .fields-of) ∙ word-back kind word word-below (g .fixed-not-zero))
+
+        encoding : Frames.EncodingOf columns kind number flag word fields wrong-bit
+        encoding = record {
+          stop = g .stop-one;
+          number-is =
+              sym (made-of-received kind number (a .is-frame))
+              ∙ ap₂ (frameNumber kind) (within .0 .word-is) (g .stop-one)
+              ∙ sym (flipped kind (encoded columns word) 1 (a .wrong) (omega arith) (fits-word word word-below) protected)
+              ∙ ap (λ (x : ℕ). Frames.flipProtected kind (a .wrong) (encodeWord columns kind x)) word-of;
+          bit = protected;
+          named = a .judged-good ∙ ap (λ (x : Bool). Good word x (a .wrong)) (within .1);
+          flag-is = a .flag-of ∙ ap (λ (x : Bool). cond x 1 0) (within .1);
+          word-is = word-of;
+          in-range = subst⁻¹ (Frames.InRange kind) (a .fields-of) (fields-in-range kind word word-below);
+        }
+
+pub short-frame-facts : Frames.ShortFrameFacts
+short-frame-facts = frame-theorem shortColumns Short refl short-columns-good
+
+pub long-frame-facts : Frames.LongFrameFacts
+long-frame-facts = frame-theorem longColumns Long refl long-columns-good

@@ -1,0 +1,51 @@
+-- Document 01, "Frames on channel B" and "Fate of a finished frame": what decoding a frame number answers, over any columns.
+-- "Decoding a frame number without a receiver answers 7, 8 or 9 of the next table, with word and flag as there; else the fields and the
+-- corrected flag." `Judged` and `Answer` are an enum and a struct of src/lib.rt.
+use Prim.Native.Nat.{ℕ, _/_, _%_, _^_}
+use mathlib.Core.Bool.{Bool, false, cond}
+use mathlib.Core.List.{List}
+use lib.Dec.{eqb}
+use Rattle.hamming.specs.declared.Decoded.{Decoded}
+use Rattle.hamming.specs.declared.Decoded.the-variants.{Word, Uncorrectable as NoWord}
+use Rattle.hamming.specs.Correction.{decoded}
+use Rattle.frame.specs.declared.Kind.{Kind}
+use Rattle.frame.specs.declared.Kind.the-variants.{Short, Long}
+use Rattle.frame.specs.declared.Judged.{Judged}
+use Rattle.frame.specs.declared.Judged.the-variants.{StopZero, Uncorrectable, FixedZero, Good}
+use Rattle.frame.specs.declared.Answer.{Answer}
+use Rattle.frame.specs.Numbers.{stopBit, received, isFrame}
+use Rattle.frame.specs.Encode.{fieldsOf, broadcast}
+
+-- verdict 9, "long, fixed bit 0 after correction": the fixed bit is bit 16 of the word
+abbrev pub fixedZero : Kind → ℕ → Bool
+fixedZero Short word = false
+fixedZero Long word = eqb (word / 2 ^ 16 % 2) 0
+
+-- rows 8 and 9 of the table: by what the decoder of the word answers
+abbrev pub judgedWord : Kind → Decoded → Judged
+judgedWord kind NoWord = Uncorrectable
+judgedWord kind (Word word flag wrong) = cond (fixedZero kind word) (FixedZero word) (Good word flag wrong)
+
+-- "Tested in this order. The first that holds is the verdict": rows 7, 8 and 9
+unfoldable pub judged : List ℕ → Kind → ℕ → Judged
+judged columns kind number = cond (eqb (stopBit number) 0) StopZero (judgedWord kind (decoded columns (received kind number)))
+
+-- an answer that tells neither flag nor fields
+abbrev pub bareAnswer : ℕ → ℕ → ℕ → Answer
+bareAnswer refusal verdict word = record { refusal = refusal; verdict = verdict; corrected = 0; word = word; fields = broadcast 0 }
+
+-- the answer to a good frame, with its fields
+abbrev pub goodAnswer : Kind → ℕ → ℕ → Answer
+goodAnswer kind flag word = record { refusal = 0; verdict = 0; corrected = flag; word = word; fields = fieldsOf kind word }
+
+-- the paper's number and values for each case. "For 0, 7, 8 and 9 the flag is 0. The word shown is 0 for verdicts 0, 7 and 8, else the
+-- corrected data." A good frame has no verdict without a receiver: 0, and its word is told.
+abbrev pub answerTo : Kind → Judged → Answer
+answerTo kind StopZero = bareAnswer 0 7 0
+answerTo kind Uncorrectable = bareAnswer 0 8 0
+answerTo kind (FixedZero word) = bareAnswer 0 9 word
+answerTo kind (Good word flag wrong) = goodAnswer kind (cond flag 1 0) word
+
+-- refusal "12: start, format or leading bits wrong for the length"; "frame as a number, first"
+unfoldable pub decodeFrame : List ℕ → Kind → ℕ → Answer
+decodeFrame columns kind number = cond (isFrame kind number) (answerTo kind (judged columns kind number)) (bareAnswer 12 0 0)

@@ -1,0 +1,111 @@
+-- What decoding answers to a frame that was encoded, clean or damaged, and conversely; over both kinds and any good columns.
+-- Proved in proofs/Frames.antt from the facts of the code.
+use Prim.Native.Nat.{ℕ, _+_, _^_, _<_}
+use mathlib.Core.Path.{_≡_}
+use mathlib.Core.Logic.{_≢_}
+use mathlib.Core.Bool.{cond}
+use mathlib.Core.List.{List}
+use lib.Bits.{bitXor}
+use lib.ListN.{length}
+use Rattle.hamming.specs.declared.WrongBit.{WrongBit}
+use Rattle.hamming.specs.declared.WrongBit.the-variants.{None, Check, Data}
+use Rattle.hamming.specs.Columns.{shortColumns, longColumns}
+use Rattle.hamming.specs.Correction.{Protected, NoneOrProtected, flagOf, GoodColumns}
+use Rattle.frame.specs.declared.Kind.{Kind}
+use Rattle.frame.specs.declared.Kind.the-variants.{Short, Long}
+use Rattle.frame.specs.declared.Fields.{Fields}
+use Rattle.frame.specs.declared.Judged.the-variants.{Good}
+use Rattle.frame.specs.declared.Answer.{Answer}
+use Rattle.frame.specs.Numbers.{dataBits, checkBits, stopBit}
+use Rattle.frame.specs.Encode.{wordOf, encodeFields, broadcast, encodeLong}
+use Rattle.frame.specs.Decode.{judged, bareAnswer, decodeFrame}
+
+-- "any fields in range"; a short frame has data alone
+abbrev pub InRange : Kind → Fields → Type 0
+InRange Short fields = (fields ≡ broadcast (fields .«data»)) × (fields .«data» < 2 ^ 8)
+InRange Long fields = (fields .address < 2 ^ 14) × (fields .e < 2) × (fields .sub < 2 ^ 8) × (fields .«data» < 2 ^ 8)
+
+-- the frame number with that protected bit flipped. The stop bit is bit 0 of the number, the check bits follow, then the data bits.
+abbrev pub flipProtected : Kind → WrongBit → ℕ → ℕ
+flipProtected kind None number = number
+flipProtected kind (Check j) number = bitXor number (2 ^ (1 + j))
+flipProtected kind (Data i) number = bitXor number (2 ^ (1 + checkBits kind + i))
+
+abbrev pub flipStop : ℕ → ℕ
+flipStop number = bitXor number (2 ^ 0)
+
+-- a protected bit of such a frame: one of its data or check bits
+abbrev pub ProtectedIn : Kind → WrongBit → Type 0
+ProtectedIn kind p = Protected (dataBits kind) (checkBits kind) p
+
+-- the fields are answered, with the corrected flag and the word that holds them
+abbrev pub fieldsAnswer : Kind → ℕ → Fields → Answer
+fieldsAnswer kind flag fields = record { refusal = 0; verdict = 0; corrected = flag; word = wordOf kind fields; fields = fields }
+
+-- ---- the facts
+
+-- the encoder takes all fields in range
+abbrev pub EncodesInRange : List ℕ → Type 0
+EncodesInRange columns =
+    (fields : Fields) → InRange Long fields
+    → encodeLong columns (fields .address) (fields .e) (fields .sub) (fields .«data»)
+    ≡ record { refusal = 0; number = encodeFields columns Long fields }
+
+-- "decoding what was encoded gives the fields back", with flag 0
+abbrev pub RoundTrip : List ℕ → Kind → Type 0
+RoundTrip columns kind =
+    (fields : Fields) → InRange kind fields
+    → decodeFrame columns kind (encodeFields columns kind fields) ≡ fieldsAnswer kind 0 fields
+
+-- one protected bit flipped: the same fields, with flag 1
+abbrev pub OneFlip : List ℕ → Kind → Type 0
+OneFlip columns kind =
+    (fields : Fields) (p : WrongBit) → InRange kind fields → ProtectedIn kind p
+    → decodeFrame columns kind (flipProtected kind p (encodeFields columns kind fields)) ≡ fieldsAnswer kind 1 fields
+
+-- two: verdict 8
+abbrev pub TwoFlips : List ℕ → Kind → Type 0
+TwoFlips columns kind =
+    (fields : Fields) (p q : WrongBit) → InRange kind fields → ProtectedIn kind p → ProtectedIn kind q → p ≢ q
+    → decodeFrame columns kind (flipProtected kind q (flipProtected kind p (encodeFields columns kind fields))) ≡ bareAnswer 0 8 0
+
+-- the stop bit flipped: verdict 7
+abbrev pub StopFlip : List ℕ → Kind → Type 0
+StopFlip columns kind =
+    (fields : Fields) → InRange kind fields
+    → decodeFrame columns kind (flipStop (encodeFields columns kind fields)) ≡ bareAnswer 0 7 0
+
+-- conversely: the number has stop bit 1 and is the encoding of these fields with bit p flipped, which is none or a protected one, and is
+-- the bit that the decoder of the word names
+pub record EncodingOf (columns : List ℕ) (kind : Kind) (number flag word : ℕ) (fields : Fields) (p : WrongBit) : Type 0 where
+  pub stop : stopBit number ≡ 1
+  pub number-is : number ≡ flipProtected kind p (encodeFields columns kind fields)
+  pub bit : NoneOrProtected (dataBits kind) (checkBits kind) p
+  pub named : judged columns kind number ≡ Good word (flagOf p) p
+  pub flag-is : flag ≡ cond (flagOf p) 1 0
+  pub word-is : word ≡ wordOf kind fields
+  pub in-range : InRange kind fields
+
+abbrev pub DecodedOnlyIf : List ℕ → Kind → Type 0
+DecodedOnlyIf columns kind =
+    (number flag word : ℕ) (fields : Fields)
+    → decodeFrame columns kind number ≡ record { refusal = 0; verdict = 0; corrected = flag; word = word; fields = fields }
+    → (p : WrongBit) × EncodingOf columns kind number flag word fields p
+
+pub record FrameFacts (columns : List ℕ) (kind : Kind) : Type 0 where
+  pub round-trip : RoundTrip columns kind
+  pub one-flip : OneFlip columns kind
+  pub two-flips : TwoFlips columns kind
+  pub stop-flip : StopFlip columns kind
+  pub decoded-only-if : DecodedOnlyIf columns kind
+
+-- the theorem, once over both kinds and any good columns, one for each data bit
+abbrev pub FrameTheorem : Type 0
+FrameTheorem = (columns : List ℕ) (kind : Kind) → length columns ≡ dataBits kind → GoodColumns (checkBits kind) columns → FrameFacts columns kind
+
+-- document 01's own columns
+abbrev pub ShortFrameFacts : Type 0
+ShortFrameFacts = FrameFacts shortColumns Short
+
+abbrev pub LongFrameFacts : Type 0
+LongFrameFacts = FrameFacts longColumns Long

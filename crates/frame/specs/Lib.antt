@@ -1,0 +1,4 @@
+pub mod Numbers
+pub mod Encode
+pub mod Decode
+pub mod Frames

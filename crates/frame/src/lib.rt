@@ -1,0 +1,271 @@
+// Document 01, "Frames on channel B": frames as numbers, first bit sent most significant.
+//
+// There is no state: fields, words and frame numbers go by value. Columns are only read, and are
+// lent: every function below the public encoders and decoders takes them.
+ghost use mathlib.Core.Path.{_≡_};
+ghost use mathlib.Core.Bool.{cond};
+ghost use Rattle.hamming.specs.Code.{inUse};
+ghost use Rattle.hamming.specs.Columns.{shortColumns, longColumns};
+ghost use Rattle.frame.specs.Numbers.{isFrame, wordBits, checkBitsOf};
+ghost use Rattle.frame.specs.Encode.{fieldsOf, encodeWord, encodeShort, encodeLong};
+ghost use Rattle.frame.specs.Decode.{fixedZero, judged, bareAnswer, answerTo, decodeFrame};
+ghost use Rattle.frame.specs.declared.Kind.the-variants.{Short, Long};
+use hamming::Decoded;
+use hamming::WrongBit;
+use hamming::check_number;
+use hamming::column_table;
+use hamming::decode_word;
+
+// The two frames: broadcast, and individually addressed.
+pub enum Kind {
+    Short,
+    Long,
+}
+
+// What an encoder answers: the number of refusal, and the frame.
+#[repr(C)]
+pub struct Encoded {
+    pub refusal: u8,
+    pub number: u64,
+}
+
+// The fields of a frame; in a short one all but the data are 0.
+#[repr(C)]
+pub struct Fields {
+    pub address: u16,
+    pub e: u8,
+    pub sub: u8,
+    pub data: u8,
+}
+
+// What a frame is judged to be before a receiver looks at its fields.
+pub enum Judged {
+    StopZero,
+    Uncorrectable,
+    FixedZero {
+        word: u32,
+    },
+    Good {
+        word: u32,
+        corrected: bool,
+        wrong: WrongBit,
+    },
+}
+
+// What a decoder answers, in the paper's numbers.
+#[repr(C)]
+pub struct Answer {
+    pub refusal: u8,
+    pub verdict: u8,
+    pub corrected: u8,
+    pub word: u32,
+    pub fields: Fields,
+}
+
+// Whether the start, format and leading bits of a number are those of such a frame.
+pub fn is_frame(kind: Kind, number: u64) -> bool
+    ensures { λ r. ⌜ r ≡ isFrame kind number ⌝ }
+{
+    match kind {
+        Kind::Short => number < 16384,
+        Kind::Long => number / 1099511627776 == 1,
+    }
+}
+
+// The frame of a word, with its check bits and stop bit.
+fn encode_word(columns: &[u8], kind: Kind, word: u32) -> u64
+    ensures { λ r. ⌜ r ≡ encodeWord (inUse (now (columns .entry))) kind word ⌝ }
+{
+    let check = check_number(columns, word) as u64;
+    match kind {
+        Kind::Short => (word as u64 * 32 + check) * 2 + 1,
+        Kind::Long => ((4294967296 + word as u64) * 128 + check) * 2 + 1,
+    }
+}
+
+// The broadcast of a byte.
+pub fn encode_short(data: u8) -> Encoded
+    ensures { λ r. ⌜ r ≡ encodeShort shortColumns «data» ⌝ }
+{
+    let table = column_table();
+    Encoded {
+        refusal: 0,
+        number: encode_word(&table[..8], Kind::Short, data as u32),
+    }
+}
+
+// The individually addressed frame of these fields.
+pub fn encode_long(address: u16, e: u8, sub: u8, data: u8) -> Encoded
+    ensures { λ r. ⌜ r ≡ encodeLong longColumns address e sub «data» ⌝ }
+{
+    if address > 16383 {
+        return Encoded {
+            refusal: 13,
+            number: 0,
+        };
+    }
+    if e > 1 {
+        return Encoded {
+            refusal: 13,
+            number: 0,
+        };
+    }
+    let table = column_table();
+    let word = address as u32 * 262144 + e as u32 * 131072 + 65536 + sub as u32 * 256 + data as u32;
+    Encoded {
+        refusal: 0,
+        number: encode_word(&table, Kind::Long, word),
+    }
+}
+
+// The word bits of a frame number, as received.
+fn word_bits(kind: Kind, number: u64) -> u32
+    ensures { λ r. ⌜ r ≡ wordBits kind number ⌝ }
+{
+    match kind {
+        Kind::Short => (number / 64 % 256) as u32,
+        Kind::Long => (number / 256 % 4294967296) as u32,
+    }
+}
+
+// The check bits of a frame number, as received.
+fn check_bits(kind: Kind, number: u64) -> u8
+    ensures { λ r. ⌜ r ≡ checkBitsOf kind number ⌝ }
+{
+    match kind {
+        Kind::Short => (number / 2 % 32) as u8,
+        Kind::Long => (number / 2 % 128) as u8,
+    }
+}
+
+// Whether the fixed bit, which a long frame alone has, is 0.
+fn fixed_zero(kind: Kind, word: u32) -> bool
+    ensures { λ r. ⌜ r ≡ fixedZero kind word ⌝ }
+{
+    match kind {
+        Kind::Short => false,
+        Kind::Long => word / 65536 % 2 == 0,
+    }
+}
+
+// The rows of document 01's table of verdicts that need no receiver, in its order.
+pub fn judge(columns: &[u8], kind: Kind, number: u64) -> Judged
+    ensures { λ r. ⌜ r ≡ judged (inUse (now (columns .entry))) kind number ⌝ }
+{
+    if number % 2 == 0 {
+        return Judged::StopZero;
+    }
+    let decoded = decode_word(columns, word_bits(kind, number), check_bits(kind, number));
+    let Decoded::Word {
+        data,
+        corrected,
+        wrong,
+    } = decoded
+    else {
+        return Judged::Uncorrectable;
+    };
+    if fixed_zero(kind, data) {
+        return Judged::FixedZero { word: data };
+    }
+    Judged::Good {
+        word: data,
+        corrected,
+        wrong,
+    }
+}
+
+// The fields of a word.
+fn fields_of(kind: Kind, word: u32) -> Fields
+    ensures { λ r. ⌜ r ≡ fieldsOf kind word ⌝ }
+{
+    match kind {
+        Kind::Short => Fields {
+            address: 0,
+            e: 0,
+            sub: 0,
+            data: (word % 256) as u8,
+        },
+        Kind::Long => Fields {
+            address: (word / 262144) as u16,
+            e: (word / 131072 % 2) as u8,
+            sub: (word / 256 % 256) as u8,
+            data: (word % 256) as u8,
+        },
+    }
+}
+
+// The flag as the paper writes it.
+fn flag_number(flag: bool) -> u8
+    ensures { λ r. ⌜ r ≡ cond flag 1 0 ⌝ }
+{
+    if flag {
+        return 1;
+    }
+    0
+}
+
+// An answer that tells neither flag nor fields.
+fn bare_answer(refusal: u8, verdict: u8, word: u32) -> Answer
+    ensures { λ r. ⌜ r ≡ bareAnswer refusal verdict word ⌝ }
+{
+    Answer {
+        refusal,
+        verdict,
+        corrected: 0,
+        word,
+        fields: Fields {
+            address: 0,
+            e: 0,
+            sub: 0,
+            data: 0,
+        },
+    }
+}
+
+// The answer to a frame so judged.
+fn answer_to(kind: Kind, judged: Judged) -> Answer
+    ensures { λ r. ⌜ r ≡ answerTo kind judged ⌝ }
+{
+    match judged {
+        Judged::StopZero => bare_answer(0, 7, 0),
+        Judged::Uncorrectable => bare_answer(0, 8, 0),
+        Judged::FixedZero { word } => bare_answer(0, 9, word),
+        Judged::Good {
+            word,
+            corrected,
+            wrong,
+        } => Answer {
+            refusal: 0,
+            verdict: 0,
+            corrected: flag_number(corrected),
+            word,
+            fields: fields_of(kind, word),
+        },
+    }
+}
+
+// What a frame number says, over these columns.
+fn decode_frame(columns: &[u8], kind: Kind, number: u64) -> Answer
+    ensures { λ r. ⌜ r ≡ decodeFrame (inUse (now (columns .entry))) kind number ⌝ }
+{
+    if !is_frame(kind, number) {
+        return bare_answer(12, 0, 0);
+    }
+    answer_to(kind, judge(columns, kind, number))
+}
+
+// What a short frame says.
+pub fn decode_short(number: u64) -> Answer
+    ensures { λ r. ⌜ r ≡ decodeFrame shortColumns Short number ⌝ }
+{
+    let table = column_table();
+    decode_frame(&table[..8], Kind::Short, number)
+}
+
+// What a long frame says.
+pub fn decode_long(number: u64) -> Answer
+    ensures { λ r. ⌜ r ≡ decodeFrame longColumns Long number ⌝ }
+{
+    let table = column_table();
+    decode_frame(&table, Kind::Long, number)
+}
