@@ -3,3 +3,4 @@ pub mod Tests
 pub mod Table
 pub mod Xor
 pub mod Powers
+pub mod Below

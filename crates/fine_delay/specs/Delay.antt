@@ -1,0 +1,23 @@
+-- Document 01, "Registers": fine delay settings and their bytes. Nothing here depends on the table of src/lib.rt.
+-- `DelayByte` and `DelaySetting` are structs of src/lib.rt.
+use Prim.Native.Nat.{ℕ, _+_, _-_, _*_, _/_, _%_}
+use mathlib.Core.Bool.{cond}
+use lib.Dec.{ltb}
+use Rattle.fine_delay.specs.declared.DelayByte.{DelayByte}
+use Rattle.fine_delay.specs.declared.DelaySetting.{DelaySetting}
+
+-- "With n = K mod 15 and m = (K div 15 − n + 14) mod 16, the byte is 16n + m". The 14 is added first: n is at most 14, so nothing is negative.
+unfoldable pub byteOf : ℕ → ℕ
+byteOf k = 16 * (k % 15) + (k / 15 + 14 - k % 15) % 16
+
+-- "back, K = (15m + 16n + 30) mod 240"
+unfoldable pub settingOf : ℕ → ℕ
+settingOf byte = (15 * (byte % 16) + 16 * (byte / 16) + 30) % 240
+
+-- refusal "8: setting over 239"
+unfoldable pub settingToByte : ℕ → DelayByte
+settingToByte k = cond (ltb 239 k) (record { refusal = 8; byte = 0 }) (record { refusal = 0; byte = byteOf k })
+
+-- refusal "9: byte over 239"; "Bytes 240..255 belong to no setting."
+unfoldable pub byteToSetting : ℕ → DelaySetting
+byteToSetting byte = cond (ltb 239 byte) (record { refusal = 9; setting = 0 }) (record { refusal = 0; setting = settingOf byte })
