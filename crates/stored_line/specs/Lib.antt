@@ -1,0 +1,4 @@
+pub mod Digits
+pub mod Read
+pub mod Write
+pub mod ReadWritten
