@@ -1,0 +1,116 @@
+/*
+ * The C interface of the TTCrx model, libttcrx.a: frames, stored lines and fine delays.
+ *
+ * Every function takes every value of its arguments. Each answer begins with the number of refusal
+ * of document 01: 0 is success; else every other field of the answer is 0, and no byte of a lent
+ * buffer was written.
+ *
+ * A function that is lent characters or a buffer takes a pointer and a length in bytes. What the
+ * caller owes: the pointer is valid for that length for reading (and for writing, where it is not
+ * const), it is not null unless the length is 0, and nothing else reads or writes those bytes while
+ * the function runs.
+ *
+ * A frame is a number whose most significant bit is sent first: start bit, format bit, word, check
+ * bits, stop bit. A short frame (broadcast) has 16 bits with a word of 8; a long frame
+ * (individually addressed) has 42 with a word of 32.
+ */
+#ifndef TTCRX_H
+#define TTCRX_H
+
+#include <stddef.h>
+#include <stdint.h>
+
+#ifdef __cplusplus
+extern "C" {
+#endif
+
+/* The answer of an encoder. */
+typedef struct ttcrx_encoded {
+    uint8_t refusal;
+    uint64_t number; /* the frame */
+} ttcrx_encoded;
+
+/* The fields of a frame. A short frame has data alone; its other fields are 0. */
+typedef struct ttcrx_fields {
+    uint16_t address;    /* 0 to 16383 */
+    uint8_t e;           /* 0: the receiver itself; 1: the electronics outside */
+    uint8_t sub_address;
+    uint8_t data;
+} ttcrx_fields;
+
+/* The answer of a decoder. A verdict of 7, 8 or 9 is no refusal. */
+typedef struct ttcrx_decoded {
+    uint8_t refusal;
+    uint8_t verdict;     /* 0: a good frame; 7: stop bit 0; 8: uncorrectable; 9: fixed bit 0 */
+    uint8_t corrected;   /* 1: one wrong bit was corrected; always 0 with verdicts 7, 8 and 9 */
+    uint32_t word;       /* the corrected word; 0 with verdicts 7 and 8 */
+    ttcrx_fields fields; /* of a good frame; 0 with verdicts 7, 8 and 9 */
+} ttcrx_decoded;
+
+/* The answer of the reader of a line. */
+typedef struct ttcrx_line {
+    uint8_t refusal;
+    uint8_t kind;    /* 0: a short frame; 1: a long one */
+    uint64_t number; /* the frame */
+} ttcrx_line;
+
+/* The answer of a writer of a line. */
+typedef struct ttcrx_written {
+    uint8_t refusal;
+    uint8_t length; /* bytes written, the line feed among them: 5 or 12 */
+} ttcrx_written;
+
+/* The byte of a fine delay setting. */
+typedef struct ttcrx_byte {
+    uint8_t refusal;
+    uint8_t byte;
+} ttcrx_byte;
+
+/* The fine delay setting of a byte. */
+typedef struct ttcrx_setting {
+    uint8_t refusal;
+    uint8_t setting; /* 0 to 239 */
+} ttcrx_setting;
+
+/* The short frame of a byte. Refuses nothing. */
+ttcrx_encoded ttcrx_encode_short(uint8_t data);
+
+/* The long frame of these fields. Refusal 13: address over 16383, or e over 1. */
+ttcrx_encoded ttcrx_encode_long(uint16_t address, uint8_t e, uint8_t sub_address, uint8_t data);
+
+/* What a short frame says. Refusal 12: the number is 2^14 or more. */
+ttcrx_decoded ttcrx_decode_short(uint64_t number);
+
+/* What a long frame says. Refusal 12: number / 2^40 is not 1. */
+ttcrx_decoded ttcrx_decode_long(uint64_t number);
+
+/*
+ * The frame of a stored line: its characters, without the line feed. Refusals, in this order:
+ * 10: not 4 or 11 characters; 11: a character that is not 0-9, A-F or a-f; 12: a number that is no
+ * short frame (4 characters) or no long frame (11), as for the decoders. The stop bit may be 0.
+ */
+ttcrx_line ttcrx_read_line(const uint8_t *characters, size_t length);
+
+/*
+ * Writes the line of a short frame to the front of the buffer: 4 capital digits and a line feed.
+ * Later bytes stay. Refusals, in this order: 12: no short frame; 14: a buffer under 5 bytes.
+ */
+ttcrx_written ttcrx_write_short(uint64_t number, uint8_t *buffer, size_t length);
+
+/*
+ * Writes the line of a long frame to the front of the buffer: 11 capital digits and a line feed.
+ * Later bytes stay. Refusals, in this order: 12: no long frame; 14: a buffer under 12 bytes.
+ */
+ttcrx_written ttcrx_write_long(uint64_t number, uint8_t *buffer, size_t length);
+
+/* The byte of a fine delay setting. Refusal 8: a setting over 239. */
+ttcrx_byte ttcrx_delay_byte(uint8_t setting);
+
+/* The setting of a fine delay byte. Refusal 9: a byte over 239. */
+ttcrx_setting ttcrx_delay_setting(uint8_t byte);
+
+#ifdef __cplusplus
+}
+#endif
+
+#endif
