@@ -1,9 +1,27 @@
-# make test: the gate, from nothing: the layout of every .rt and .antt file, then every proof, must-fail edit and program.
-# make fmt: put those files in the layout.
-.PHONY: test fmt
+# make: proves and builds the library, target/staticlib/libttcrx.a, for C, C++ and Rust; its header is include/ttcrx.h.
+# make test: the gate, from nothing: the layout of every .rt and .antt file, the library against the independent model, then every proof,
+# must-fail edit and program.
+# make compare: the library against the independent model of host/, called from Rust, C and C++.
+# make fmt: put the .rt and .antt files in the layout.
+.PHONY: library compare layout test fmt
 
-test:
+ARCHIVE = target/staticlib/libttcrx.a
+WARNINGS = -Wall -Wextra -Wpedantic -Werror
+
+library:
+	rt staticlib ttcrx
+
+compare: library
+	cargo test --quiet --offline --locked --manifest-path host/Cargo.toml
+	gcc -std=c11 $(WARNINGS) -Iinclude host/c/interface.c $(ARCHIVE) -o target/interface-c
+	target/interface-c
+	g++ -std=c++17 $(WARNINGS) -Iinclude -x c++ host/c/interface.c -x none $(ARCHIVE) -o target/interface-cxx
+	target/interface-cxx
+
+layout:
 	rt fmt --check
+
+test: layout compare
 	rt ci
 
 fmt:
