@@ -2,21 +2,20 @@
 use mathlib.Core.Path.{_≡_, refl, sym, ap, ap₂, _∙_, subst, subst⁻¹}
 use mathlib.Core.Bool.{Bool, true, false, cond}
 use mathlib.Core.List.{List}
-use Prim.Native.Nat.{ℕ, _^_, _<_}
+use Prim.Native.Nat.{ℕ, _^_, _≤_, _<_}
 use native.Mathlib.Omega.{arith}
-use borrow.Author.Tests.{le-ltb, eqb-false}
+use borrow.Author.Tests.{eqb-false}
 use lib.Dec.{eqb}
 use lib.ListN.{length}
+use Rattle.laws.proofs.Rules.{picks}
 use Rattle.hamming.specs.declared.WrongBit.{WrongBit}
 use Rattle.hamming.specs.declared.WrongBit.the-variants.{None, Check, Data}
 use Rattle.hamming.specs.declared.Decoded.{Decoded}
 use Rattle.hamming.specs.declared.Decoded.the-variants.{Word, Uncorrectable as NoWord}
-use Rattle.hamming.specs.Columns.{shortColumns, longColumns}
 use Rattle.hamming.specs.Correction.{Coded, encoded, decoded, flip, Protected, NoneOrProtected, flagOf, Within, Corrects}
 use Rattle.hamming.proofs.Correction.{correction}
 use Rattle.hamming.proofs.Uses.{short-columns-good, long-columns-good}
 use Rattle.frame.specs.declared.Kind.{Kind}
-use Rattle.frame.specs.declared.Kind.the-variants.{Short, Long}
 use Rattle.frame.specs.declared.Fields.{Fields}
 use Rattle.frame.specs.declared.Judged.{Judged}
 use Rattle.frame.specs.declared.Judged.the-variants.{StopZero, Uncorrectable, FixedZero, Good}
@@ -30,7 +29,10 @@ use Rattle.frame.proofs.Words.{not-zero, fields-back, word-fits, fixed-
 
 pub encodes-in-range : (columns : List ℕ) → Frames.EncodesInRange columns
 unfolding encodeLong
-encodes-in-range columns fields r = rw (le-ltb 16383 (fields .address) (omega arith), le-ltb 1 (fields .e) (omega arith))
+encodes-in-range columns fields r =
+    let address : fields .address ≤ 16383 = omega arith in
+    let e : fields .e ≤ 1 = omega arith in
+    sym (search picks)
 
 -- ---- a frame number as it was put together
 
@@ -211,7 +213,7 @@ frame-theorem columns kind len good = record {
         }
 
 pub short-frame-facts : Frames.ShortFrameFacts
-short-frame-facts = frame-theorem shortColumns Short refl short-columns-good
+short-frame-facts = frame-theorem _ _ refl short-columns-good
 
 pub long-frame-facts : Frames.LongFrameFacts
-long-frame-facts = frame-theorem longColumns Long refl long-columns-good
+long-frame-facts = frame-theorem _ _ refl long-columns-good

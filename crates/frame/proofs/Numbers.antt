@@ -4,7 +4,8 @@ use mathlib.Core.Bool.{true}
 use Prim.Native.Nat.{ℕ, _+_, _*_, _/_, _%_, _^_, _<_}
 use native.Mathlib.Nat.{add-assoc, mod-lt}
 use native.Mathlib.Omega.{arith}
-use borrow.Author.Tests.{lt-ltb, eq-eqb, eqb-true, ltb-true}
+use borrow.Author.Tests.{eqb-true, ltb-true}
+use Rattle.laws.proofs.Rules.{tests}
 use lib.Bits.{bitXor, xor-lt}
 use lib.Pow.{pow-pos, pow-lt, split, high, low, shr-shr}
 use Rattle.laws.proofs.Xor.{xor-low-bit, xor-high-bit}
@@ -52,8 +53,8 @@ received-of kind sent stop h f = ap₂ (λ (b c : ℕ). record { bits = b; check
 -- refusal 12 lets it through
 pub is-frame-of : (kind : Kind) (sent : Coded) (stop : ℕ) → stop < 2 → Fits kind sent → isFrame kind (frameNumber kind sent stop) ≡ true
 unfolding isFrame
-is-frame-of Short sent stop h f = lt-ltb (frameNumber Short sent stop) (2 ^ 14) (omega (arith, f .bits-fit, f .check-fits))
-is-frame-of Long sent stop h f = eq-eqb (frameNumber Long sent stop / 2 ^ 40) 1 (omega (arith, f .bits-fit, f .check-fits))
+is-frame-of Short sent stop h f = let below : frameNumber Short sent stop < 2 ^ 14 = omega (arith, f .bits-fit, f .check-fits) in search tests
+is-frame-of Long sent stop h f = let lead : frameNumber Long sent stop / 2 ^ 40 ≡ 1 = omega (arith, f .bits-fit, f .check-fits) in search tests
 
 -- ---- conversely, a number that refusal 12 lets through is made of what is received
 

@@ -4,7 +4,8 @@ use mathlib.Core.Bool.{false}
 use Prim.Native.Nat.{ℕ, zero, suc, _+_, _*_, _/_, _%_, _^_, _<_}
 use native.Mathlib.Nat.{mod-eq-of-lt, mod-lt}
 use native.Mathlib.Omega.{arith}
-use borrow.Author.Tests.{ne-eqb, eqb-false}
+use borrow.Author.Tests.{eqb-false}
+use Rattle.laws.proofs.Rules.{tests}
 use lib.Pow.{split, shr-shr}
 use Rattle.frame.specs.declared.Kind.{Kind}
 use Rattle.frame.specs.declared.Kind.the-variants.{Short, Long}
@@ -19,7 +20,7 @@ fields-eq : {a b e f s t d g : ℕ} → a ≡ b → e ≡ f → s ≡ t → d �
 fields-eq p q r s = rw (p, q, r, s)
 
 pub fields-back : (kind : Kind) (fields : Fields) → InRange kind fields → fieldsOf kind (wordOf kind fields) ≡ fields
-fields-back Short fields r = ap broadcast (mod-eq-of-lt (r .1)) ∙ sym (r .0)
+fields-back Short fields r = ap broadcast (omega (arith, r .1)) ∙ sym (r .0)
 fields-back Long fields r = fields-eq (omega arith) (omega arith) (omega arith) (omega arith)
 
 pub word-fits : (kind : Kind) (fields : Fields) → InRange kind fields → wordOf kind fields < 2 ^ dataBits kind
@@ -28,7 +29,7 @@ word-fits Long fields r = omega arith
 
 pub fixed-one : (kind : Kind) (fields : Fields) → InRange kind fields → fixedZero kind (wordOf kind fields) ≡ false
 fixed-one Short fields r = refl
-fixed-one Long fields r = ne-eqb (wordOf Long fields / 2 ^ 16 % 2) 0 (λ z. omega arith)
+fixed-one Long fields r = let one : wordOf Long fields / 2 ^ 16 % 2 ≡ 0 → ⊥ = λ z. omega arith in search tests
 
 pub not-zero : (n : ℕ) → (n % 2 ≡ 0 → ⊥) → n % 2 ≡ 1
 not-zero n h = by-low (n % 2) refl

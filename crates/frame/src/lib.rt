@@ -67,8 +67,8 @@ pub fn is_frame(kind: Kind, number: u64) -> bool
     ensures { λ r. ⌜ r ≡ isFrame kind number ⌝ }
 {
     match kind {
-        Kind::Short => number < 16384,
-        Kind::Long => number / 1099511627776 == 1,
+        Kind::Short => number < 0x4000,
+        Kind::Long => number / 0x100_0000_0000 == 1,
     }
 }
 
@@ -78,8 +78,8 @@ fn encode_word(columns: &[u8], kind: Kind, word: u32) -> u64
 {
     let check = check_number(columns, word) as u64;
     match kind {
-        Kind::Short => (word as u64 * 32 + check) * 2 + 1,
-        Kind::Long => ((4294967296 + word as u64) * 128 + check) * 2 + 1,
+        Kind::Short => (word as u64 * 0x20 + check) * 2 + 1,
+        Kind::Long => ((0x1_0000_0000 + word as u64) * 0x80 + check) * 2 + 1,
     }
 }
 
@@ -111,7 +111,11 @@ pub fn encode_long(address: u16, e: u8, sub: u8, data: u8) -> Encoded
         };
     }
     let table = column_table();
-    let word = address as u32 * 262144 + e as u32 * 131072 + 65536 + sub as u32 * 256 + data as u32;
+    let word = address as u32 * 0x4_0000
+        + e as u32 * 0x2_0000
+        + 0x1_0000
+        + sub as u32 * 0x100
+        + data as u32;
     Encoded {
         refusal: 0,
         number: encode_word(&table, Kind::Long, word),
@@ -123,8 +127,8 @@ fn word_bits(kind: Kind, number: u64) -> u32
     ensures { λ r. ⌜ r ≡ wordBits kind number ⌝ }
 {
     match kind {
-        Kind::Short => (number / 64 % 256) as u32,
-        Kind::Long => (number / 256 % 4294967296) as u32,
+        Kind::Short => (number / 0x40 % 0x100) as u32,
+        Kind::Long => (number / 0x100 % 0x1_0000_0000) as u32,
     }
 }
 
@@ -133,8 +137,8 @@ fn check_bits(kind: Kind, number: u64) -> u8
     ensures { λ r. ⌜ r ≡ checkBitsOf kind number ⌝ }
 {
     match kind {
-        Kind::Short => (number / 2 % 32) as u8,
-        Kind::Long => (number / 2 % 128) as u8,
+        Kind::Short => (number / 2 % 0x20) as u8,
+        Kind::Long => (number / 2 % 0x80) as u8,
     }
 }
 
@@ -144,7 +148,7 @@ fn fixed_zero(kind: Kind, word: u32) -> bool
 {
     match kind {
         Kind::Short => false,
-        Kind::Long => word / 65536 % 2 == 0,
+        Kind::Long => word / 0x1_0000 % 2 == 0,
     }
 }
 
@@ -183,13 +187,13 @@ fn fields_of(kind: Kind, word: u32) -> Fields
             address: 0,
             e: 0,
             sub: 0,
-            data: (word % 256) as u8,
+            data: (word % 0x100) as u8,
         },
         Kind::Long => Fields {
-            address: (word / 262144) as u16,
-            e: (word / 131072 % 2) as u8,
-            sub: (word / 256 % 256) as u8,
-            data: (word % 256) as u8,
+            address: (word / 0x4_0000) as u16,
+            e: (word / 0x2_0000 % 2) as u8,
+            sub: (word / 0x100 % 0x100) as u8,
+            data: (word % 0x100) as u8,
         },
     }
 }

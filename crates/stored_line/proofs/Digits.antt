@@ -8,7 +8,7 @@ use native.Mathlib.Numerals.{add-one, sub-one}
 use native.Mathlib.Omega.{arith}
 use borrow.Author.Tests.{lt-ltb, le-ltb, leb-true}
 use lib.Dec.{leb}
-use lib.ListN.{length, getD, drop, set, drop-of-length-le, length-append, length-drop}
+use lib.ListN.{length, getD, drop, set, drop-of-length-le, length-append}
 use lib.Seq.{drop-cons, drop-set-lt, getD-set-same, lt-length-set, append-snoc}
 use Rattle.laws.proofs.Tests.{both}
 use Rattle.stored_line.specs.Digits.{between, digitValue, digitCharacter, allDigits, hexNumber, hexDigits}
@@ -83,8 +83,3 @@ unfolding hexDigits
 length-digits zero number = refl
 length-digits (suc digits) number =
     length-append (hexDigits digits (number / 16)) (digitCharacter (number % 16) ∷ []) ∙ ap (λ (n : ℕ). n + 1) (length-digits digits (number / 16)) ∙ add-one digits
-
-pub length-written : (buffer : List ℕ) (digits number : ℕ) → digits ≤ length buffer → length (hexDigits digits number ++ drop digits buffer) ≡ length buffer
-length-written buffer digits number h =
-    length-append (hexDigits digits number) (drop digits buffer)
-    ∙ omega (arith, length-digits digits number, length-drop digits buffer)

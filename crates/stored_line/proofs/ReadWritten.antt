@@ -1,5 +1,5 @@
 -- Reading a written line gives the number back. Assumes nothing.
-use mathlib.Core.Path.{_≡_, refl, ap, ap₂, _∙_}
+use mathlib.Core.Path.{_≡_, refl, sym, ap, ap₂, _∙_}
 use mathlib.Core.Bool.{true}
 use mathlib.Core.List.{List, [], _∷_, _++_}
 use Prim.Native.Nat.{ℕ, zero, suc, _+_, _*_, _/_, _%_, _^_, _≤_, _<_}
@@ -8,8 +8,8 @@ use native.Mathlib.Numerals.{add-one}
 use native.Mathlib.Omega.{arith}
 use borrow.Author.Tests.{lt-ltb, le-ltb, ltb-true, eqb-true}
 use lib.Dec.{eqb}
-use lib.ListN.{length, take, drop, getD, length-append}
-use lib.Seq.{take-at, getD-at, append-snoc}
+use lib.ListN.{length, take, getD, length-append}
+use lib.Seq.{take-at, getD-at, take-take, getD-take}
 use Rattle.laws.proofs.Tests.{both}
 use Rattle.laws.proofs.Below.{below}
 use Rattle.frame.specs.declared.Kind.{Kind}
@@ -19,7 +19,7 @@ use Rattle.stored_line.specs.declared.Hex.the-variants.{Number}
 use Rattle.stored_line.specs.declared.StoredLine.the-variants.{Frame}
 use Rattle.stored_line.specs.Digits.{digitValue, isDigit, allDigits, hexNumber, hexAnswer, digitCharacter, hexDigits}
 use Rattle.stored_line.specs.Read.{digitCount, readLine}
-use Rattle.stored_line.specs.Write.{lineLength, writeLine}
+use Rattle.stored_line.specs.Write.{lineOf, lineLength, writeLine}
 use Rattle.stored_line.specs.ReadWritten.{ReadWritten}
 use Rattle.stored_line.proofs.Digits.{length-digits}
 
@@ -85,20 +85,33 @@ unfolding readLine
 read-digits Short number e = rw (length-digits 4 number, spelt Short number e, e)
 read-digits Long number e = rw (length-digits 11 number, spelt Long number e, e)
 
-line-written : (kind : Kind) (number : ℕ) (buffer : List ℕ) → isFrame kind number ≡ true → lineLength kind ≤ length buffer
-    → writeLine kind number buffer .buffer ≡ hexDigits (digitCount kind) number ++ 10 ∷ drop (lineLength kind) buffer
+-- the front of the buffer is the line
+front-written : (kind : Kind) (number : ℕ) (buffer : List ℕ) → isFrame kind number ≡ true → lineLength kind ≤ length buffer
+    → take (lineLength kind) (writeLine kind number buffer .buffer) ≡ lineOf kind number
 unfolding writeLine
-line-written kind number buffer e h =
-    rw (e, le-ltb (length buffer) (lineLength kind) h) (append-snoc (hexDigits (digitCount kind) number) 10 (drop (lineLength kind) buffer))
+front-written kind number buffer e h =
+    rw (e, le-ltb (length buffer) (lineLength kind) h)
+    (take-at (lineOf kind number) _ (lineLength kind)
+    (length-append (hexDigits (digitCount kind) number) (10 ∷ []) ∙ ap (λ (n : ℕ). n + 1) (length-digits (digitCount kind) number) ∙ add-one (digitCount kind)))
 
 pub read-written : ReadWritten
 read-written kind number buffer e h = (
-  ap readLine (ap (take (digitCount kind)) line ∙ take-at digits _ (digitCount kind) (length-digits (digitCount kind) number)) ∙ read-digits kind number e,
-  ap (λ (l : List ℕ). getD l (digitCount kind) 0) line ∙ getD-at digits 10 _ 0 (digitCount kind) (length-digits (digitCount kind) number),
+  ap readLine (front digits (omega arith) ∙ take-at line-digits _ _ (length-digits digits number)) ∙ read-digits kind number e,
+  sym (getD-take (lineLength kind) after digits 0 (omega arith)) ∙ ap (λ (l : List ℕ). getD l digits 0) written-front
+      ∙ getD-at line-digits 10 [] 0 digits (length-digits digits number),
 )
   where
-    digits : List ℕ
-    digits = hexDigits (digitCount kind) number
+    digits : ℕ
+    digits = digitCount kind
 
-    line : writeLine kind number buffer .buffer ≡ digits ++ 10 ∷ drop (lineLength kind) buffer
-    line = line-written kind number buffer e h
+    line-digits : List ℕ
+    line-digits = hexDigits digits number
+
+    after : List ℕ
+    after = writeLine kind number buffer .buffer
+
+    written-front : take (lineLength kind) after ≡ lineOf kind number
+    written-front = front-written kind number buffer e h
+
+    front : (n : ℕ) → n ≤ lineLength kind → take n after ≡ take n (lineOf kind number)
+    front n l = sym (take-take n (lineLength kind) after l) ∙ ap (take n) written-front

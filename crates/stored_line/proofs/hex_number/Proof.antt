@@ -55,7 +55,7 @@ loop-again : tie.Need-loop-again Inv-loop μ-loop
 loop-again c = let turn = c .before .before .before .before .loop in
     let more = c .before .before .before .if1 .left in
     let value = c .before .digit-value .ensures in (
-      below-next _ _ _ (turn .inv .0) (c .if2 .left),
+      omega (arith, below-next (turn .number) (turn .at) _ (turn .inv .0) (c .if2 .left)),
       number-on _ (turn .number) (turn .at) _ more value ∙ turn .inv .1,
       digits-on _ (turn .at) _ more value (c .if2 .left) ∙ turn .inv .2,
     )

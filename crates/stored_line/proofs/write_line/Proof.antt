@@ -4,11 +4,12 @@ use mathlib.Core.Path.{_≡_, ap, ap₂, _∙_}
 use mathlib.Core.Bool.{true}
 use mathlib.Core.List.{List, _++_}
 use Prim.Native.Nat.{ℕ, suc, _≤_, _<_}
+use native.Mathlib.Nat.{le-of-lt}
 use native.Mathlib.Numerals.{add-one}
 use native.Mathlib.Omega.{arith}
 use borrow.Author.Needs.{needs}
 use borrow.Author.Tests.{lt-ltb, le-ltb}
-use lib.ListN.{length, drop, set, length-set}
+use lib.ListN.{length, drop, set, length-set, length-append, length-drop}
 use Rattle.frame.specs.declared.Kind.{Kind}
 use Rattle.frame.specs.declared.Kind.the-variants.{Short, Long}
 use Rattle.frame.specs.Numbers.{isFrame}
@@ -16,7 +17,7 @@ use Rattle.laws.proofs.Rules.{denied, granted}
 use Rattle.stored_line.specs.Digits.{hexDigits}
 use Rattle.stored_line.specs.Read.{digitCount}
 use Rattle.stored_line.specs.Write.{written, refusedWrite, lineLength, writeLine}
-use Rattle.stored_line.proofs.Digits.{stored-behind, length-written}
+use Rattle.stored_line.proofs.Digits.{stored-behind, length-digits}
 use Rattle.stored_line.proofs.write_line.Statement.{statement}
 use Rattle.stored_line.proofs.write_line.Tie as tie
 
@@ -52,13 +53,14 @@ digit-count-requires c κs = search needs
 
 returns-2 : tie.Need-returns-2
 returns-2 c =
-    too-small _ _ _ _ (c .before .digit-count .ensures) (granted _ _ (c .before .before .before .is-frame .ensures) (c .before .before .if1 .left)) (c .if2 .taken)
+    too-small _ _ _ _ (c .before .digit-count .ensures) (granted _ _ (c .before .before .before .is-frame .ensures) (c .before .before .if1 .left))
+    (omega (arith, c .if2 .taken))
 
 slice-write-buffer : tie.Need-slice-write-buffer
 slice-write-buffer c = search needs
 
 write-digits-requires : tie.Need-write-digits-requires
-write-digits-requires c κs = omega (arith, length-set (c .before .before .before .before .before .before .args .buffer .now) (c .before .before .digit-count .result) 10, c .before .if2 .left)
+write-digits-requires c κs = rw length-set (le-of-lt (c .before .if2 .left))
 
 add-t7 : tie.Need-add-t7
 add-t7 c = search needs
@@ -68,12 +70,7 @@ cast-t12 c =
     omega (arith, c .before .before .before .before .before .digit-count .ensures, count-small (c .before .before .before .before .before .before .before .before .before .args .kind))
 
 same-length : tie.Need-same-length
-same-length c =
-    let buffer = c .before .before .before .before .before .before .before .before .before .args .buffer .now in
-    let digits = c .before .before .before .before .before .digit-count .result in
-    let kept = length-set buffer digits 10 in
-    ap length (c .before .before .write-digits .ensures)
-    ∙ length-written (set buffer digits 10) digits _ (omega (arith, kept, c .before .before .before .before .if2 .left)) ∙ kept
+same-length c = ap length (c .before .before .write-digits .ensures) ∙ rw (length-append, length-digits, length-drop, length-set) (omega (arith, c .before .before .before .before .if2 .left))
 
 returns-3 : tie.Need-returns-3
 returns-3 c =
