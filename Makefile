@@ -1,8 +1,8 @@
 # make: proves and builds the library, target/staticlib/libttcrx.a, for C, C++ and Rust; its header is include/ttcrx.h.
-# make test: the gate, from nothing: the layout of every .rt and .antt file, the library against the independent model, then every proof,
+# make test: the gate, from nothing: the layout of every source file, the library against the independent model, then every proof,
 # must-fail edit and program.
 # make compare: the library against the independent model of host/, called from Rust, C and C++.
-# make fmt: put the .rt and .antt files in the layout.
+# make fmt: put every source file in the layout.
 .PHONY: library compare layout test fmt
 
 ARCHIVE = target/staticlib/libttcrx.a
@@ -20,9 +20,11 @@ compare: library
 
 layout:
 	rt fmt --check
+	cargo fmt --check --manifest-path host/Cargo.toml
 
 test: layout compare
 	rt ci
 
 fmt:
 	rt fmt
+	cargo fmt --manifest-path host/Cargo.toml

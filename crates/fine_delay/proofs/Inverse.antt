@@ -50,4 +50,4 @@ byte-back byte h =
     ∙ ap (λ (b : ℕ). record { refusal = 0; byte = b }) (byte-of-setting byte h)
 
 pub no-setting-beyond : NoSettingBeyond
-no-setting-beyond k h = rw (byte-answer k h) (byte-below k)
+no-setting-beyond k h = rw (byte-answer k h) (omega (arith, byte-below k))

@@ -91,8 +91,7 @@ front-written : (kind : Kind) (number : ℕ) (buffer : List ℕ) → isFrame kin
 unfolding writeLine
 front-written kind number buffer e h =
     rw (e, le-ltb (length buffer) (lineLength kind) h)
-    (take-at (lineOf kind number) _ (lineLength kind)
-    (length-append (hexDigits (digitCount kind) number) (10 ∷ []) ∙ ap (λ (n : ℕ). n + 1) (length-digits (digitCount kind) number) ∙ add-one (digitCount kind)))
+    (take-at (lineOf kind number) _ (lineLength kind) (rw (length-append, length-digits) (add-one (digitCount kind))))
 
 pub read-written : ReadWritten
 read-written kind number buffer e h = (
