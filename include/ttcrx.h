@@ -6,9 +6,10 @@
  * buffer was written.
  *
  * A function that is lent characters or a buffer takes a pointer and a length in bytes. What the
- * caller owes: the pointer is valid for that length for reading (and for writing, where it is not
- * const), it is not null unless the length is 0, and nothing else reads or writes those bytes while
- * the function runs.
+ * caller owes: the pointer is valid for that length, for writing too where it is not const, and is
+ * not null unless the length is 0; the length is at most PTRDIFF_MAX; two regions lent to one call
+ * do not overlap; and while the function runs, nothing else writes those bytes, nor reads those of a
+ * buffer.
  *
  * A frame is a number whose most significant bit is sent first: start bit, format bit, word, check
  * bits, stop bit. A short frame (broadcast) has 16 bits with a word of 8; a long frame
@@ -60,17 +61,17 @@ typedef struct ttcrx_written {
     uint8_t length; /* bytes written, the line feed among them: 5 or 12 */
 } ttcrx_written;
 
-/* The byte of a fine delay setting. */
-typedef struct ttcrx_byte {
+/* The answer to a fine delay setting. */
+typedef struct ttcrx_byte_answer {
     uint8_t refusal;
     uint8_t byte;
-} ttcrx_byte;
+} ttcrx_byte_answer;
 
-/* The fine delay setting of a byte. */
-typedef struct ttcrx_setting {
+/* The answer to a fine delay byte. */
+typedef struct ttcrx_setting_answer {
     uint8_t refusal;
     uint8_t setting; /* 0 to 239 */
-} ttcrx_setting;
+} ttcrx_setting_answer;
 
 /* The short frame of a byte. Refuses nothing. */
 ttcrx_encoded ttcrx_encode_short(uint8_t data);
@@ -78,10 +79,10 @@ ttcrx_encoded ttcrx_encode_short(uint8_t data);
 /* The long frame of these fields. Refusal 13: address over 16383, or e over 1. */
 ttcrx_encoded ttcrx_encode_long(uint16_t address, uint8_t e, uint8_t sub_address, uint8_t data);
 
-/* What a short frame says. Refusal 12: the number is 2^14 or more. */
+/* What a number says as a short frame. Refusal 12: the number is 2^14 or more. */
 ttcrx_decoded ttcrx_decode_short(uint64_t number);
 
-/* What a long frame says. Refusal 12: number / 2^40 is not 1. */
+/* What a number says as a long frame. Refusal 12: number / 2^40 is not 1. */
 ttcrx_decoded ttcrx_decode_long(uint64_t number);
 
 /*
@@ -104,10 +105,10 @@ ttcrx_written ttcrx_write_short(uint64_t number, uint8_t *buffer, size_t length)
 ttcrx_written ttcrx_write_long(uint64_t number, uint8_t *buffer, size_t length);
 
 /* The byte of a fine delay setting. Refusal 8: a setting over 239. */
-ttcrx_byte ttcrx_delay_byte(uint8_t setting);
+ttcrx_byte_answer ttcrx_delay_byte(uint8_t setting);
 
 /* The setting of a fine delay byte. Refusal 9: a byte over 239. */
-ttcrx_setting ttcrx_delay_setting(uint8_t byte);
+ttcrx_setting_answer ttcrx_delay_setting(uint8_t byte);
 
 #ifdef __cplusplus
 }

@@ -36,13 +36,13 @@ static_assert(sizeof(ttcrx_written) == 2, "written");
 static_assert(offsetof(ttcrx_written, refusal) == 0, "written.refusal");
 static_assert(offsetof(ttcrx_written, length) == 1, "written.length");
 
-static_assert(sizeof(ttcrx_byte) == 2, "byte");
-static_assert(offsetof(ttcrx_byte, refusal) == 0, "byte.refusal");
-static_assert(offsetof(ttcrx_byte, byte) == 1, "byte.byte");
+static_assert(sizeof(ttcrx_byte_answer) == 2, "byte");
+static_assert(offsetof(ttcrx_byte_answer, refusal) == 0, "byte.refusal");
+static_assert(offsetof(ttcrx_byte_answer, byte) == 1, "byte.byte");
 
-static_assert(sizeof(ttcrx_setting) == 2, "setting");
-static_assert(offsetof(ttcrx_setting, refusal) == 0, "setting.refusal");
-static_assert(offsetof(ttcrx_setting, setting) == 1, "setting.setting");
+static_assert(sizeof(ttcrx_setting_answer) == 2, "setting");
+static_assert(offsetof(ttcrx_setting_answer, refusal) == 0, "setting.refusal");
+static_assert(offsetof(ttcrx_setting_answer, setting) == 1, "setting.setting");
 
 static unsigned passed = 0;
 static unsigned failed = 0;
@@ -199,8 +199,8 @@ static void check_delays(void)
     static const uint8_t examples[5][2] = {{0, 14}, {1, 29}, {15, 15}, {30, 0}, {239, 239}};
     size_t i;
     for (i = 0; i < 5; i++) {
-        ttcrx_byte byte = ttcrx_delay_byte(examples[i][0]);
-        ttcrx_setting setting = ttcrx_delay_setting(examples[i][1]);
+        ttcrx_byte_answer byte = ttcrx_delay_byte(examples[i][0]);
+        ttcrx_setting_answer setting = ttcrx_delay_setting(examples[i][1]);
         check(byte.refusal == 0 && byte.byte == examples[i][1], "byte of a setting");
         check(setting.refusal == 0 && setting.setting == examples[i][0], "setting of a byte");
     }

@@ -48,7 +48,7 @@ pub struct Written {
     pub length: u8,
 }
 
-/// `ttcrx_byte`
+/// `ttcrx_byte_answer`
 #[repr(C)]
 #[derive(Clone, Copy, Debug, Default, PartialEq, Eq)]
 pub struct Byte {
@@ -56,7 +56,7 @@ pub struct Byte {
     pub byte: u8,
 }
 
-/// `ttcrx_setting`
+/// `ttcrx_setting_answer`
 #[repr(C)]
 #[derive(Clone, Copy, Debug, Default, PartialEq, Eq)]
 pub struct Setting {

@@ -12,7 +12,7 @@ use Rattle.frame.specs.Encode.{encodeShort, encodeLong}
 use Rattle.frame.specs.Decode.{decodeFrame}
 use Rattle.fine_delay.specs.Delay.{settingToByte}
 
--- an example, with what is expected of it as its last numbers
+-- an example: what is given, then what is expected of it
 pub data Example : Type 0 where
   -- a broadcast's byte; the frame
   broadcast : (byte frame : ℕ) → Example
@@ -31,9 +31,11 @@ pub data Example : Type 0 where
 abbrev sent : Encoded → List ℕ
 sent answer = answer .refusal ∷ answer .number ∷ []
 
--- refusal, verdict, corrected flag, word and data
+-- refusal, verdict, corrected flag, word, address, E, sub-address and data
 abbrev told : Answer → List ℕ
-told answer = answer .refusal ∷ answer .verdict ∷ answer .corrected ∷ answer .word ∷ answer .fields .«data» ∷ []
+told answer =
+    answer .refusal ∷ answer .verdict ∷ answer .corrected ∷ answer .word
+    ∷ answer .fields .address ∷ answer .fields .e ∷ answer .fields .sub ∷ answer .fields .«data» ∷ []
 
 abbrev pub answered : Example → List ℕ
 answered (broadcast byte frame) = sent (encodeShort shortColumns byte)
@@ -47,9 +49,9 @@ answered (setting k byte) = settingToByte k .refusal ∷ settingToByte k .byte �
 abbrev pub expected : Example → List ℕ
 expected (broadcast byte frame) = 0 ∷ frame ∷ []
 expected (long address e sub byte frame) = 0 ∷ frame ∷ []
-expected (corrected frame byte) = 0 ∷ 0 ∷ 1 ∷ byte ∷ byte ∷ []
-expected (uncorrectable frame) = 0 ∷ 8 ∷ 0 ∷ 0 ∷ 0 ∷ []
-expected (uncorrectable-long frame s) = s ∷ 0 ∷ 8 ∷ 0 ∷ 0 ∷ 0 ∷ []
+expected (corrected frame byte) = 0 ∷ 0 ∷ 1 ∷ byte ∷ 0 ∷ 0 ∷ 0 ∷ byte ∷ []
+expected (uncorrectable frame) = 0 ∷ 8 ∷ 0 ∷ 0 ∷ 0 ∷ 0 ∷ 0 ∷ 0 ∷ []
+expected (uncorrectable-long frame s) = s ∷ 0 ∷ 8 ∷ 0 ∷ 0 ∷ 0 ∷ 0 ∷ 0 ∷ 0 ∷ []
 expected (setting k byte) = 0 ∷ byte ∷ []
 
 abbrev pub examples : List Example

@@ -40,14 +40,18 @@ unfolding byteToSetting
 setting-answer byte h = rw (le-ltb 239 byte (le-of-suc-le-suc h))
 
 pub setting-back : SettingBack
-setting-back k h =
-    ap (λ (a : DelayByte). byteToSetting (a .byte)) (byte-answer k h) ∙ setting-answer (byteOf k) (byte-below k)
-    ∙ ap (λ (s : ℕ). record { refusal = 0; setting = s }) (setting-of-byte k h)
+setting-back k h = (
+  ap (λ (a : DelayByte). a .refusal) (byte-answer k h),
+  ap (λ (a : DelayByte). byteToSetting (a .byte)) (byte-answer k h) ∙ setting-answer (byteOf k) (byte-below k)
+      ∙ ap (λ (s : ℕ). record { refusal = 0; setting = s }) (setting-of-byte k h),
+)
 
 pub byte-back : ByteBack
-byte-back byte h =
-    ap (λ (a : DelaySetting). settingToByte (a .setting)) (setting-answer byte h) ∙ byte-answer (settingOf byte) (setting-below byte)
-    ∙ ap (λ (b : ℕ). record { refusal = 0; byte = b }) (byte-of-setting byte h)
+byte-back byte h = (
+  ap (λ (a : DelaySetting). a .refusal) (setting-answer byte h),
+  ap (λ (a : DelaySetting). settingToByte (a .setting)) (setting-answer byte h) ∙ byte-answer (settingOf byte) (setting-below byte)
+      ∙ ap (λ (b : ℕ). record { refusal = 0; byte = b }) (byte-of-setting byte h),
+)
 
 pub no-setting-beyond : NoSettingBeyond
 no-setting-beyond k h = rw (byte-answer k h) (omega (arith, byte-below k))

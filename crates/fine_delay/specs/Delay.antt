@@ -14,10 +14,10 @@ byteOf k = 16 * (k % 15) + (k / 15 + 14 - k % 15) % 16
 unfoldable pub settingOf : ℕ → ℕ
 settingOf byte = (15 * (byte % 16) + 16 * (byte / 16) + 30) % 240
 
--- refusal "8: setting over 239"
+-- refusal 8: "setting over 239"
 unfoldable pub settingToByte : ℕ → DelayByte
 settingToByte k = cond (ltb 239 k) (record { refusal = 8; byte = 0 }) (record { refusal = 0; byte = byteOf k })
 
--- refusal "9: byte over 239"; "Bytes 240..255 belong to no setting."
+-- refusal 9: "byte over 239". "Bytes 240..255 belong to no setting."
 unfoldable pub byteToSetting : ℕ → DelaySetting
 byteToSetting byte = cond (ltb 239 byte) (record { refusal = 9; setting = 0 }) (record { refusal = 0; setting = settingOf byte })

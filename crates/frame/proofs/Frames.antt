@@ -16,7 +16,9 @@ use Rattle.hamming.specs.Correction.{Coded, encoded, decoded, flip, Protected, 
 use Rattle.hamming.proofs.Correction.{correction}
 use Rattle.hamming.proofs.Uses.{short-columns-good, long-columns-good}
 use Rattle.frame.specs.declared.Kind.{Kind}
+use Rattle.frame.specs.declared.Kind.the-variants.{Short, Long}
 use Rattle.frame.specs.declared.Fields.{Fields}
+use Rattle.frame.specs.declared.Encoded.{Encoded}
 use Rattle.frame.specs.declared.Judged.{Judged}
 use Rattle.frame.specs.declared.Judged.the-variants.{StopZero, Uncorrectable, FixedZero, Good}
 use Rattle.frame.specs.declared.Answer.{Answer}
@@ -24,12 +26,13 @@ use Rattle.frame.specs.Numbers.{dataBits, checkBits, frameNumber, stopBi
 use Rattle.frame.specs.Encode.{wordOf, fieldsOf, encodeWord, encodeLong}
 use Rattle.frame.specs.Decode.{fixedZero, judgedWord, judged, bareAnswer, answerTo, decodeFrame}
 use Rattle.frame.specs.Frames
-use Rattle.frame.proofs.Numbers.{Fits, stop-of, received-of, is-frame-of, received-fits, made-of-received, flipped, flipped-fits, stop-flipped}
+use Rattle.frame.proofs.Numbers.{Fits, stop-of, received-of, is-frame-of, received-fits, made-of-received, flipped, flipped-fits, stop-flipped, lead-flipped}
 use Rattle.frame.proofs.Words.{not-zero, fields-back, word-fits, fixed-one, word-back, fields-in-range}
 
-pub encodes-in-range : (columns : List ℕ) → Frames.EncodesInRange columns
+encodes : (columns : List ℕ) (kind : Kind) → Frames.EncodesInRange columns kind
 unfolding encodeLong
-encodes-in-range columns fields r =
+encodes columns Short fields r = refl
+encodes columns Long fields r =
     let address : fields .address ≤ 16383 = omega arith in
     let e : fields .e ≤ 1 = omega arith in
     sym (search picks)
@@ -47,14 +50,28 @@ decode-sent : (columns : List ℕ) (kind : Kind) (sent : Coded) → Fits kind se
 unfolding decodeFrame
 decode-sent columns kind sent f = rw (is-frame-of kind sent 1 (omega arith) f, judged-sent columns kind sent f)
 
-decode-stopless : (columns : List ℕ) (kind : Kind) (sent : Coded) → Fits kind sent → decodeFrame columns kind (frameNumber kind sent 0) ≡ bareAnswer 0 7 0
+stop-first : (columns : List ℕ) (kind : Kind) → Frames.StopFirst columns kind
 unfolding decodeFrame judged
-decode-stopless columns kind sent f = rw (is-frame-of kind sent 0 (omega arith) f, stop-of kind sent 0 (omega arith))
+stop-first columns kind number i e = rw (i, e)
 
 -- the answer to a decoded word of fields in range
 answer-good : (kind : Kind) (fields : Fields) (flag : Bool) (p : WrongBit) → Frames.InRange kind fields
     → answerTo kind (judgedWord kind (Word (wordOf kind fields) flag p)) ≡ Frames.fieldsAnswer kind (cond flag 1 0) fields
 answer-good kind fields flag p r = rw (fixed-one kind fields r, fields-back kind fields r)
+
+-- and to one whose fixed bit is 0
+answer-fixed : (kind : Kind) (word : ℕ) (flag : Bool) (p : WrongBit) → fixedZero kind word ≡ true
+    → answerTo kind (judgedWord kind (Word word flag p)) ≡ bareAnswer 0 9 word
+answer-fixed kind word flag p z = rw z
+
+decode-refused : (columns : List ℕ) (kind : Kind) (number : ℕ) → isFrame kind number ≡ false → decodeFrame columns kind number ≡ bareAnswer 12 0 0
+unfolding decodeFrame
+decode-refused columns kind number e = rw e
+
+flag-raised : (n w : ℕ) (p : WrongBit) → Protected n w p → flagOf p ≡ true
+flag-raised n w None b = absurd b
+flag-raised n w (Check j) b = refl
+flag-raised n w (Data i) b = refl
 
 none-or : (n w : ℕ) (p : WrongBit) → Protected n w p → NoneOrProtected n w p
 none-or n w None b = absurd b
@@ -130,16 +147,34 @@ good-frame columns kind number word raised wrong = by-stop (eqb (stopBit number)
     by-stop true s g = absurd (let no-way : _≡_ {A = ℕ} 0 1 = cc in omega arith)
     by-stop false s g = by-decoded (not-zero number (eqb-false (stopBit number) 0 s)) (decoded columns (received kind number)) refl g
 
+-- what is told of a decoded word is not verdict 8
+not-8 : (kind : Kind) (word : ℕ) (flag : Bool) (p : WrongBit) → answerTo kind (judgedWord kind (Word word flag p)) ≡ bareAnswer 0 8 0 → ⊥
+not-8 kind word flag p = by-fixed (fixedZero kind word)
+  where
+    by-fixed : (t : Bool) → answerTo kind (cond t (FixedZero word) (Good word flag p)) ≡ bareAnswer 0 8 0 → ⊥
+    by-fixed true e = let z : _≡_ {A = ℕ} 9 8 = ap (λ (x : Answer). x .verdict) e in omega arith
+    by-fixed false e = let z : _≡_ {A = ℕ} 0 8 = ap (λ (x : Answer). x .verdict) e in omega arith
+
+-- the number is an encoding with at most that bit flipped
+record Near (columns : List ℕ) (kind : Kind) (number word : ℕ) (raised : Bool) (wrong : WrongBit) : Type 0 where
+  pub word-below : word < 2 ^ dataBits kind
+  pub protected : NoneOrProtected (dataBits kind) (checkBits kind) wrong
+  pub flag-of-bit : raised ≡ flagOf wrong
+  pub number-of : number ≡ Frames.flipProtected kind wrong (encodeWord columns kind word)
+
 -- ---- the theorem
 
 pub frame-theorem : Frames.FrameTheorem
 frame-theorem columns kind len good = record {
-  round-trip = λ fields r. decode-sent columns kind (sent fields) (fits fields r) ∙ ap answer (corrects .clean (wordOf kind fields)) ∙ answer-good kind fields false None r;
+  encodes-in-range = encodes columns kind;
+  round-trip =
+      λ fields r.
+      ap (λ (x : Encoded). decodeFrame columns kind (x .number)) (encodes columns kind fields r)
+      ∙ decode-within (wordOf kind fields) None (word-fits kind fields r) tt ∙ answer-good kind fields false None r;
   one-flip =
       λ fields p r b.
-      ap (decodeFrame columns kind) (flipped kind (sent fields) 1 p (omega arith) (fits fields r) (none-or _ _ p b))
-      ∙ decode-sent columns kind (flip p (sent fields)) (flipped-fits kind (sent fields) p (fits fields r) (none-or _ _ p b))
-      ∙ ap answer (corrects .one-flip (wordOf kind fields) p (in-columns p b)) ∙ answer-good kind fields true p r;
+      decode-within (wordOf kind fields) p (word-fits kind fields r) (none-or _ _ p b)
+      ∙ ap (λ (t : Bool). answer (Word (wordOf kind fields) t p)) (flag-raised _ _ p b) ∙ answer-good kind fields true p r;
   two-flips =
       λ fields p q r b d ne.
       let f = flipped-fits kind (sent fields) p (fits fields r) (none-or _ _ p b) in
@@ -148,7 +183,14 @@ frame-theorem columns kind len good = record {
       ∙ decode-sent columns kind (flip q (flip p (sent fields))) (flipped-fits kind (flip p (sent fields)) q f (none-or _ _ q d))
       ∙ ap answer (corrects .two-flips (wordOf kind fields) p q (in-columns p b) (in-columns q d) ne);
   stop-flip =
-      λ fields r. ap (decodeFrame columns kind) (stop-flipped kind (sent fields)) ∙ decode-stopless columns kind (sent fields) (fits fields r);
+      λ fields r.
+      ap (decodeFrame columns kind) (stop-flipped kind (sent fields))
+      ∙ stop-first columns kind (frameNumber kind (sent fields) 0) (is-frame-of kind (sent fields) 0 (omega arith) (fits fields r))
+      (stop-of kind (sent fields) 0 (omega arith));
+  lead-flip = λ fields j r. decode-refused columns kind _ (lead-flipped kind (sent fields) 1 j (omega arith) (fits fields r));
+  stop-first = stop-first columns kind;
+  fixed-bit-zero = λ word p h z b. decode-within word p h b ∙ answer-fixed kind word (flagOf p) p z;
+  uncorrectable-exactly = exactly;
   decoded-only-if = only-if;
 }
   where
@@ -167,50 +209,93 @@ frame-theorem columns kind len good = record {
     fits : (fields : Fields) → Frames.InRange kind fields → Fits kind (sent fields)
     fits fields r = fits-word (wordOf kind fields) (word-fits kind fields r)
 
+    decoded-within : (word : ℕ) (p : WrongBit) → NoneOrProtected (dataBits kind) (checkBits kind) p
+        → decoded columns (flip p (encoded columns word)) ≡ Word word (flagOf p) p
+    decoded-within word None b = corrects .clean word
+    decoded-within word (Check j) b = corrects .one-flip word (Check j) b
+    decoded-within word (Data i) b = corrects .one-flip word (Data i) (subst⁻¹ (λ (n : ℕ). i < n) len b)
+
+    -- an encoded word with no bit or one protected bit flipped is decoded as that word
+    decode-within : (word : ℕ) (p : WrongBit) → word < 2 ^ dataBits kind → NoneOrProtected (dataBits kind) (checkBits kind) p
+        → decodeFrame columns kind (Frames.flipProtected kind p (encodeWord columns kind word)) ≡ answer (Word word (flagOf p) p)
+    decode-within word p h b =
+        ap (decodeFrame columns kind) (flipped kind (encoded columns word) 1 p (omega arith) (fits-word word h) b)
+        ∙ decode-sent columns kind (flip p (encoded columns word)) (flipped-fits kind (encoded columns word) p (fits-word word h) b)
+        ∙ ap answer (decoded-within word p b)
+
     in-columns : (p : WrongBit) → Frames.ProtectedIn kind p → Protected (length columns) (checkBits kind) p
     in-columns p b = subst⁻¹ (λ (n : ℕ). Protected n (checkBits kind) p) len b
 
+    -- a decoded word is that of an encoding, with the named bit flipped
+    near : (number word : ℕ) (raised : Bool) (wrong : WrongBit) → isFrame kind number ≡ true → stopBit number ≡ 1
+        → decoded columns (received kind number) ≡ Word word raised wrong → Near columns kind number word raised wrong
+    near number word raised wrong i s e = record {
+      word-below = below;
+      protected = bit;
+      flag-of-bit = within .1;
+      number-of =
+          sym (made-of-received kind number i) ∙ ap₂ (frameNumber kind) (within .0 .word-is) s
+          ∙ sym (flipped kind (encoded columns word) 1 wrong (omega arith) (fits-word word below) bit);
+    }
+      where
+        within : Within (checkBits kind) columns (received kind number) word wrong × (raised ≡ flagOf wrong)
+        within = corrects .answer-within (received kind number) (received-fits kind number .check-fits) word raised wrong e
+
+        below : word < 2 ^ dataBits kind
+        below =
+            subst (λ (n : ℕ). word < 2 ^ n) len
+            (corrects .data-fits (received kind number) (subst⁻¹ (λ (n : ℕ). received kind number .bits < 2 ^ n) len (received-fits kind number .bits-fit))
+            word raised wrong e)
+
+        bit : NoneOrProtected (dataBits kind) (checkBits kind) wrong
+        bit = subst (λ (n : ℕ). NoneOrProtected n (checkBits kind) wrong) len (within .0 .bit)
+
     only-if : Frames.DecodedOnlyIf columns kind
-    only-if number flag word fields e = (wrong-bit, encoding)
+    only-if number flag word fields e = (a .wrong, encoding)
       where
         a : Answered columns kind number flag word fields
         a = answered columns kind number flag word fields e
 
-        wrong-bit : WrongBit
-        wrong-bit = a .wrong
-
         g : GoodFrame columns kind number word (a .raised) (a .wrong)
         g = good-frame columns kind number word (a .raised) (a .wrong) (a .judged-good)
 
-        within : Within (checkBits kind) columns (received kind number) word (a .wrong) × (a .raised ≡ flagOf (a .wrong))
-        within = corrects .answer-within (received kind number) (received-fits kind number .check-fits) word (a .raised) (a .wrong) (g .word-decoded)
-
-        word-below : word < 2 ^ dataBits kind
-        word-below =
-            subst (λ (n : ℕ). word < 2 ^ n) len
-            (corrects .data-fits (received kind number) (subst⁻¹ (λ (n : ℕ). received kind number .bits < 2 ^ n) len (received-fits kind number .bits-fit))
-            word (a .raised) (a .wrong) (g .word-decoded))
-
-        protected : NoneOrProtected (dataBits kind) (checkBits kind) (a .wrong)
-        protected = subst (λ (n : ℕ). NoneOrProtected n (checkBits kind) (a .wrong)) len (within .0 .bit)
+        n : Near columns kind number word (a .raised) (a .wrong)
+        n = near number word (a .raised) (a .wrong) (a .is-frame) (g .stop-one) (g .word-decoded)
 
         word-of : word ≡ wordOf kind fields
-        word-of = sym (ap (wordOf kind) (a .fields-of) ∙ word-back kind word word-below (g .fixed-not-zero))
+        word-of = sym (ap (wordOf kind) (a .fields-of) ∙ word-back kind word (n .word-below) (g .fixed-not-zero))
 
-        encoding : Frames.EncodingOf columns kind number flag word fields wrong-bit
+        encoding : Frames.EncodingOf columns kind number flag word fields (a .wrong)
         encoding = record {
           stop = g .stop-one;
-          number-is =
-              sym (made-of-received kind number (a .is-frame))
-              ∙ ap₂ (frameNumber kind) (within .0 .word-is) (g .stop-one)
-              ∙ sym (flipped kind (encoded columns word) 1 (a .wrong) (omega arith) (fits-word word word-below) protected)
-              ∙ ap (λ (x : ℕ). Frames.flipProtected kind (a .wrong) (encodeWord columns kind x)) word-of;
-          bit = protected;
-          named = a .judged-good ∙ ap (λ (x : Bool). Good word x (a .wrong)) (within .1);
-          flag-is = a .flag-of ∙ ap (λ (x : Bool). cond x 1 0) (within .1);
+          number-is = n .number-of ∙ ap (λ (x : ℕ). Frames.flipProtected kind (a .wrong) (encodeWord columns kind x)) word-of;
+          bit = n .protected;
+          named = a .judged-good ∙ ap (λ (x : Bool). Good word x (a .wrong)) (n .flag-of-bit);
+          flag-is = a .flag-of ∙ ap (λ (x : Bool). cond x 1 0) (n .flag-of-bit);
           word-is = word-of;
-          in-range = subst⁻¹ (Frames.InRange kind) (a .fields-of) (fields-in-range kind word word-below);
+          in-range = subst⁻¹ (Frames.InRange kind) (a .fields-of) (fields-in-range kind word (n .word-below));
         }
+
+    exactly : Frames.UncorrectableExactly columns kind
+    exactly number i s = (none-near, answered-8)
+      where
+        decodes : decodeFrame columns kind number ≡ answer (decoded columns (received kind number))
+        decodes =
+            ap (decodeFrame columns kind) (sym (made-of-received kind number i) ∙ ap (frameNumber kind (received kind number)) s)
+            ∙ decode-sent columns kind (received kind number) (received-fits kind number)
+
+        none-near : decodeFrame columns kind number ≡ bareAnswer 0 8 0 → Frames.NoneNear columns kind number
+        none-near e word p h b n =
+            not-8 kind word (flagOf p) p (sym (decode-within word p h b) ∙ ap (decodeFrame columns kind) (sym n) ∙ e)
+
+        by-decoded : Frames.NoneNear columns kind number → (d : Decoded) → decoded columns (received kind number) ≡ d → answer d ≡ bareAnswer 0 8 0
+        by-decoded none NoWord e = refl
+        by-decoded none (Word word raised wrong) e =
+            let n = near number word raised wrong i s e in
+            absurd (none word wrong (n .word-below) (n .protected) (n .number-of))
+
+        answered-8 : Frames.NoneNear columns kind number → decodeFrame columns kind number ≡ bareAnswer 0 8 0
+        answered-8 none = decodes ∙ by-decoded none (decoded columns (received kind number)) refl
 
 pub short-frame-facts : Frames.ShortFrameFacts
 short-frame-facts = frame-theorem _ _ refl short-columns-good

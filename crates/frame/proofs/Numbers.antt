@@ -1,21 +1,21 @@
 -- The bits of a frame number: what was put there is received, and a flipped bit changes that bit alone. Assumes nothing.
 use mathlib.Core.Path.{_≡_, refl, sym, ap, ap₂, _∙_}
-use mathlib.Core.Bool.{true}
+use mathlib.Core.Bool.{Bool, true, false}
 use Prim.Native.Nat.{ℕ, _+_, _*_, _/_, _%_, _^_, _<_}
-use native.Mathlib.Nat.{add-assoc, mod-lt}
+use native.Mathlib.Nat.{add-assoc, mod-lt, mul-comm}
 use native.Mathlib.Omega.{arith}
 use borrow.Author.Tests.{eqb-true, ltb-true}
 use Rattle.laws.proofs.Rules.{tests}
-use lib.Bits.{bitXor, xor-lt}
-use lib.Pow.{pow-pos, pow-lt, split, high, low, shr-shr}
-use Rattle.laws.proofs.Xor.{xor-low-bit, xor-high-bit}
+use lib.Bits.{bitXor, xor-lt, xor-shr, xor-comm, xor-self}
+use lib.Pow.{pow-pos, pow-lt, pow-add, split, high, low, shr-shr, shl-shr}
+use Rattle.laws.proofs.Xor.{xor-back, xor-low-bit, xor-high-bit}
 use Rattle.hamming.specs.declared.WrongBit.{WrongBit}
 use Rattle.hamming.specs.declared.WrongBit.the-variants.{None, Check, Data}
 use Rattle.hamming.specs.Correction.{Coded, flip, NoneOrProtected}
 use Rattle.frame.specs.declared.Kind.{Kind}
 use Rattle.frame.specs.declared.Kind.the-variants.{Short, Long}
 use Rattle.frame.specs.Numbers.{dataBits, checkBits, formatBit, frameNumber, stopBit, checkBitsOf, wordBits, received, isFrame}
-use Rattle.frame.specs.Frames.{flipProtected, flipStop}
+use Rattle.frame.specs.Frames.{flipProtected, flipStop, flipLead}
 
 -- the word and the check number fit their bits
 pub record Fits (kind : Kind) (sent : Coded) : Type 0 where
@@ -101,3 +101,48 @@ flipped-fits kind sent (Data i) f b = record { bits-fit = xor-lt (dataBits kind)
 
 pub stop-flipped : (kind : Kind) (sent : Coded) → flipStop (frameNumber kind sent 1) ≡ frameNumber kind sent 0
 stop-flipped kind sent = xor-low-bit 1 (front kind sent) 1 0 (omega arith) (omega arith)
+
+-- ---- the leading bits
+
+-- what stands before the word in a number that was put together
+lead-of : (kind : Kind) (sent : Coded) (stop : ℕ) → stop < 2 → Fits kind sent
+    → frameNumber kind sent stop / 2 ^ (1 + checkBits kind) / 2 ^ dataBits kind ≡ formatBit kind
+lead-of kind sent stop h f =
+    ap (λ (x : ℕ). x / 2 ^ dataBits kind)
+    (sym (shr-shr (frameNumber kind sent stop) 1 (checkBits kind)) ∙ ap (λ (x : ℕ). x / 2 ^ checkBits kind) (front-of kind sent stop h)
+    ∙ high (upper kind sent) (checkBits kind) (f .check-fits))
+    ∙ high (formatBit kind) (dataBits kind) (f .bits-fit)
+
+-- a flip in it is a flip of it
+lead-xor : (kind : Kind) (number j : ℕ)
+    → flipLead kind j number / 2 ^ (1 + checkBits kind) / 2 ^ dataBits kind ≡ bitXor (number / 2 ^ (1 + checkBits kind) / 2 ^ dataBits kind) (2 ^ j)
+lead-xor kind number j =
+    ap (λ (x : ℕ). x / 2 ^ n) (xor-shr number (2 ^ (k + n + j)) k)
+    ∙ xor-shr (number / 2 ^ k) (2 ^ (k + n + j) / 2 ^ k) n
+    ∙ ap (bitXor (number / 2 ^ k / 2 ^ n))
+    (shr-shr (2 ^ (k + n + j)) k n ∙ ap (λ (x : ℕ). x / 2 ^ (k + n)) (pow-add 2 (k + n) j ∙ mul-comm (2 ^ (k + n)) (2 ^ j)) ∙ shl-shr (2 ^ j) (k + n))
+  where
+    k : ℕ
+    k = 1 + checkBits kind
+
+    n : ℕ
+    n = dataBits kind
+
+-- a flip of a number leaves another one
+xor-moves : (a j : ℕ) → bitXor a (2 ^ j) ≡ a → ⊥
+xor-moves a j e =
+    let none : 2 ^ j ≡ 0 = sym (xor-back (2 ^ j) a) ∙ ap (λ (x : ℕ). bitXor x a) (xor-comm (2 ^ j) a ∙ e) ∙ xor-self a in
+    omega (arith, pow-pos j)
+
+pub lead-flipped : (kind : Kind) (sent : Coded) (stop j : ℕ) → stop < 2 → Fits kind sent → isFrame kind (flipLead kind j (frameNumber kind sent stop)) ≡ false
+lead-flipped kind sent stop j h f = by-test (isFrame kind (flipLead kind j number)) refl
+  where
+    number : ℕ
+    number = frameNumber kind sent stop
+
+    by-test : (t : Bool) → isFrame kind (flipLead kind j number) ≡ t → t ≡ false
+    by-test false e = refl
+    by-test true e =
+        absurd
+        (xor-moves (formatBit kind) j
+        (ap (λ (x : ℕ). bitXor x (2 ^ j)) (sym (lead-of kind sent stop h f)) ∙ sym (lead-xor kind number j) ∙ lead-is kind (flipLead kind j number) e))

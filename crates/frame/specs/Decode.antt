@@ -38,14 +38,14 @@ bareAnswer refusal verdict word = record { refusal = refusal; verdict = verdict;
 abbrev pub goodAnswer : Kind → ℕ → ℕ → Answer
 goodAnswer kind flag word = record { refusal = 0; verdict = 0; corrected = flag; word = word; fields = fieldsOf kind word }
 
--- the paper's number and values for each case. "For 0, 7, 8 and 9 the flag is 0. The word shown is 0 for verdicts 0, 7 and 8, else the
--- corrected data." A good frame has no verdict without a receiver: 0, and its word is told.
+-- the paper's number and values for each case. For 7, 8 and 9 "the flag is 0", and "the word shown is 0" for 7 and 8, "else the corrected
+-- data". A good frame has no verdict until a receiver gives it one: the verdict is 0, and flag, word and fields are told.
 abbrev pub answerTo : Kind → Judged → Answer
 answerTo kind StopZero = bareAnswer 0 7 0
 answerTo kind Uncorrectable = bareAnswer 0 8 0
 answerTo kind (FixedZero word) = bareAnswer 0 9 word
 answerTo kind (Good word flag wrong) = goodAnswer kind (cond flag 1 0) word
 
--- refusal "12: start, format or leading bits wrong for the length"; "frame as a number, first"
+-- refusal 12, "start, format or leading bits wrong for the length", is tested "first"
 unfoldable pub decodeFrame : List ℕ → Kind → ℕ → Answer
 decodeFrame columns kind number = cond (isFrame kind number) (answerTo kind (judged columns kind number)) (bareAnswer 12 0 0)

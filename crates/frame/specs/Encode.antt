@@ -35,7 +35,7 @@ broadcast byte = record { address = 0; e = 0; sub = 0; «data» = byte }
 abbrev pub encodeShort : List ℕ → ℕ → Encoded
 encodeShort columns byte = record { refusal = 0; number = encodeFields columns Short (broadcast byte) }
 
--- "13: address over 16383 or E over 1"
+-- refusal 13: "address over 16383 or E over 1"
 abbrev pub refused13 : Encoded
 refused13 = record { refusal = 13; number = 0 }
 

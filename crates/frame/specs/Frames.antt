@@ -2,8 +2,8 @@
 -- Proved in proofs/Frames.antt from the facts of the code.
 use Prim.Native.Nat.{ℕ, _+_, _^_, _<_}
 use mathlib.Core.Path.{_≡_}
-use mathlib.Core.Logic.{_≢_}
-use mathlib.Core.Bool.{cond}
+use mathlib.Core.Logic.{_≢_, _↔_}
+use mathlib.Core.Bool.{true, cond}
 use mathlib.Core.List.{List}
 use lib.Bits.{bitXor}
 use lib.ListN.{length}
@@ -14,11 +14,12 @@ use Rattle.hamming.specs.Correction.{Protected, NoneOrProtected, flagOf, GoodCo
 use Rattle.frame.specs.declared.Kind.{Kind}
 use Rattle.frame.specs.declared.Kind.the-variants.{Short, Long}
 use Rattle.frame.specs.declared.Fields.{Fields}
+use Rattle.frame.specs.declared.Encoded.{Encoded}
 use Rattle.frame.specs.declared.Judged.the-variants.{Good}
 use Rattle.frame.specs.declared.Answer.{Answer}
-use Rattle.frame.specs.Numbers.{dataBits, checkBits, stopBit}
-use Rattle.frame.specs.Encode.{wordOf, encodeFields, broadcast, encodeLong}
-use Rattle.frame.specs.Decode.{judged, bareAnswer, decodeFrame}
+use Rattle.frame.specs.Numbers.{dataBits, checkBits, stopBit, isFrame}
+use Rattle.frame.specs.Encode.{wordOf, encodeWord, encodeFields, broadcast, encodeShort, encodeLong}
+use Rattle.frame.specs.Decode.{fixedZero, judged, bareAnswer, decodeFrame}
 
 -- "any fields in range"; a short frame has data alone
 abbrev pub InRange : Kind → Fields → Type 0
@@ -38,24 +39,32 @@ flipStop number = bitXor number (2 ^ 0)
 abbrev pub ProtectedIn : Kind → WrongBit → Type 0
 ProtectedIn kind p = Protected (dataBits kind) (checkBits kind) p
 
+-- a leading bit flipped: number 0 is the format bit, 1 the start bit, and none is protected
+abbrev pub flipLead : Kind → ℕ → ℕ → ℕ
+flipLead kind j number = bitXor number (2 ^ (1 + checkBits kind + dataBits kind + j))
+
+-- the encoders of the two kinds
+abbrev pub encodeFrame : List ℕ → Kind → Fields → Encoded
+encodeFrame columns Short fields = encodeShort columns (fields .«data»)
+encodeFrame columns Long fields = encodeLong columns (fields .address) (fields .e) (fields .sub) (fields .«data»)
+
 -- the fields are answered, with the corrected flag and the word that holds them
 abbrev pub fieldsAnswer : Kind → ℕ → Fields → Answer
 fieldsAnswer kind flag fields = record { refusal = 0; verdict = 0; corrected = flag; word = wordOf kind fields; fields = fields }
 
 -- ---- the facts
 
--- the encoder takes all fields in range
-abbrev pub EncodesInRange : List ℕ → Type 0
-EncodesInRange columns =
-    (fields : Fields) → InRange Long fields
-    → encodeLong columns (fields .address) (fields .e) (fields .sub) (fields .«data»)
-    ≡ record { refusal = 0; number = encodeFields columns Long fields }
+-- the encoders take all fields in range, and give the properly encoded frame
+abbrev pub EncodesInRange : List ℕ → Kind → Type 0
+EncodesInRange columns kind =
+    (fields : Fields) → InRange kind fields
+    → encodeFrame columns kind fields ≡ record { refusal = 0; number = encodeFields columns kind fields }
 
--- "decoding what was encoded gives the fields back", with flag 0
+-- decoding what was encoded gives the fields back, with flag 0
 abbrev pub RoundTrip : List ℕ → Kind → Type 0
 RoundTrip columns kind =
     (fields : Fields) → InRange kind fields
-    → decodeFrame columns kind (encodeFields columns kind fields) ≡ fieldsAnswer kind 0 fields
+    → decodeFrame columns kind (encodeFrame columns kind fields .number) ≡ fieldsAnswer kind 0 fields
 
 -- one protected bit flipped: the same fields, with flag 1
 abbrev pub OneFlip : List ℕ → Kind → Type 0
@@ -75,6 +84,35 @@ StopFlip columns kind =
     (fields : Fields) → InRange kind fields
     → decodeFrame columns kind (flipStop (encodeFields columns kind fields)) ≡ bareAnswer 0 7 0
 
+-- a leading bit flipped: refusal 12
+abbrev pub LeadFlip : List ℕ → Kind → Type 0
+LeadFlip columns kind =
+    (fields : Fields) (j : ℕ) → InRange kind fields
+    → decodeFrame columns kind (flipLead kind j (encodeFields columns kind fields)) ≡ bareAnswer 12 0 0
+
+-- a stop bit of 0 is found first, whatever the other bits are: verdict 7
+abbrev pub StopFirst : List ℕ → Kind → Type 0
+StopFirst columns kind =
+    (number : ℕ) → isFrame kind number ≡ true → stopBit number ≡ 0 → decodeFrame columns kind number ≡ bareAnswer 0 7 0
+
+-- a word whose fixed bit is 0, encoded, with no bit or one protected bit flipped: verdict 9, with that word
+abbrev pub FixedBitZero : List ℕ → Kind → Type 0
+FixedBitZero columns kind =
+    (word : ℕ) (p : WrongBit) → word < 2 ^ dataBits kind → fixedZero kind word ≡ true → NoneOrProtected (dataBits kind) (checkBits kind) p
+    → decodeFrame columns kind (flipProtected kind p (encodeWord columns kind word)) ≡ bareAnswer 0 9 word
+
+-- no encoded word is within one flip of the number
+abbrev pub NoneNear : List ℕ → Kind → ℕ → Type 0
+NoneNear columns kind number =
+    (word : ℕ) (p : WrongBit) → word < 2 ^ dataBits kind → NoneOrProtected (dataBits kind) (checkBits kind) p
+    → number ≡ flipProtected kind p (encodeWord columns kind word) → ⊥
+
+-- a frame whose stop bit is 1 gets verdict 8 exactly when that is so
+abbrev pub UncorrectableExactly : List ℕ → Kind → Type 0
+UncorrectableExactly columns kind =
+    (number : ℕ) → isFrame kind number ≡ true → stopBit number ≡ 1
+    → (decodeFrame columns kind number ≡ bareAnswer 0 8 0) ↔ NoneNear columns kind number
+
 -- conversely: the number has stop bit 1 and is the encoding of these fields with bit p flipped, which is none or a protected one, and is
 -- the bit that the decoder of the word names
 pub record EncodingOf (columns : List ℕ) (kind : Kind) (number flag word : ℕ) (fields : Fields) (p : WrongBit) : Type 0 where
@@ -93,10 +131,15 @@ DecodedOnlyIf columns kind =
     → (p : WrongBit) × EncodingOf columns kind number flag word fields p
 
 pub record FrameFacts (columns : List ℕ) (kind : Kind) : Type 0 where
+  pub encodes-in-range : EncodesInRange columns kind
   pub round-trip : RoundTrip columns kind
   pub one-flip : OneFlip columns kind
   pub two-flips : TwoFlips columns kind
   pub stop-flip : StopFlip columns kind
+  pub lead-flip : LeadFlip columns kind
+  pub stop-first : StopFirst columns kind
+  pub fixed-bit-zero : FixedBitZero columns kind
+  pub uncorrectable-exactly : UncorrectableExactly columns kind
   pub decoded-only-if : DecodedOnlyIf columns kind
 
 -- the theorem, once over both kinds and any good columns, one for each data bit

@@ -22,7 +22,7 @@ abbrev pub formatBit : Kind → ℕ
 formatBit Short = 0
 formatBit Long = 1
 
--- "start 0, format .., data bits, check bits, stop": one behind the other; the start bit adds nothing to the number
+-- start, format, word, check bits and stop, one behind the other; the start bit is 0 and adds nothing to the number
 abbrev pub frameNumber : Kind → Coded → ℕ → ℕ
 frameNumber kind sent stop = ((formatBit kind * 2 ^ dataBits kind + sent .bits) * 2 ^ checkBits kind + sent .check) * 2 + stop
 

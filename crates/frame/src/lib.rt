@@ -1,7 +1,7 @@
 // Document 01, "Frames on channel B": frames as numbers, first bit sent most significant.
 //
 // There is no state: fields, words and frame numbers go by value. Columns are only read, and are
-// lent: every function below the public encoders and decoders takes them.
+// lent: below the public encoders and decoders, every function that needs columns takes them.
 ghost use mathlib.Core.Path.{_≡_};
 ghost use mathlib.Core.Bool.{cond};
 ghost use Rattle.hamming.specs.Code.{inUse};
@@ -152,7 +152,7 @@ fn fixed_zero(kind: Kind, word: u32) -> bool
     }
 }
 
-// The rows of document 01's table of verdicts that need no receiver, in its order.
+// Rows 7, 8 and 9 of document 01's table of verdicts, in its order.
 pub fn judge(columns: &[u8], kind: Kind, number: u64) -> Judged
     ensures { λ r. ⌜ r ≡ judged (inUse (now (columns .entry))) kind number ⌝ }
 {
@@ -258,7 +258,7 @@ fn decode_frame(columns: &[u8], kind: Kind, number: u64) -> Answer
     answer_to(kind, judge(columns, kind, number))
 }
 
-// What a short frame says.
+// What a number says as a short frame.
 pub fn decode_short(number: u64) -> Answer
     ensures { λ r. ⌜ r ≡ decodeFrame shortColumns Short number ⌝ }
 {
@@ -266,7 +266,7 @@ pub fn decode_short(number: u64) -> Answer
     decode_frame(&table[..8], Kind::Short, number)
 }
 
-// What a long frame says.
+// What a number says as a long frame.
 pub fn decode_long(number: u64) -> Answer
     ensures { λ r. ⌜ r ≡ decodeFrame longColumns Long number ⌝ }
 {

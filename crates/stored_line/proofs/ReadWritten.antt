@@ -93,8 +93,14 @@ front-written kind number buffer e h =
     rw (e, le-ltb (length buffer) (lineLength kind) h)
     (take-at (lineOf kind number) _ (lineLength kind) (rw (length-append, length-digits) (add-one (digitCount kind))))
 
+answer-written : (kind : Kind) (number : ℕ) (buffer : List ℕ) → isFrame kind number ≡ true → lineLength kind ≤ length buffer
+    → writeLine kind number buffer .answer ≡ record { refusal = 0; length = lineLength kind }
+unfolding writeLine
+answer-written kind number buffer e h = rw (e, le-ltb (length buffer) (lineLength kind) h)
+
 pub read-written : ReadWritten
 read-written kind number buffer e h = (
+  answer-written kind number buffer e h,
   ap readLine (front digits (omega arith) ∙ take-at line-digits _ _ (length-digits digits number)) ∙ read-digits kind number e,
   sym (getD-take (lineLength kind) after digits 0 (omega arith)) ∙ ap (λ (l : List ℕ). getD l digits 0) written-front
       ∙ getD-at line-digits 10 [] 0 digits (length-digits digits number),

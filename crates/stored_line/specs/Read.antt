@@ -19,7 +19,7 @@ abbrev pub digitCount : Kind → ℕ
 digitCount Short = 4
 digitCount Long = 11
 
--- "11: character not 0-9, A-F, a-f", "after 10"; "12: start, format or leading bits wrong for the length", "after 11"
+-- refusal 11: "character not 0-9, A-F, a-f"; then refusal 12: "start, format or leading bits wrong for the length"
 abbrev pub readHex : Kind → Hex → StoredLine
 readHex kind NoDigit = Refused 11
 readHex kind (Number number) = cond (isFrame kind number) (Frame kind number) (Refused 12)
@@ -27,7 +27,7 @@ readHex kind (Number number) = cond (isFrame kind number) (Frame kind number) (R
 abbrev pub readAs : Kind → List ℕ → StoredLine
 readAs kind characters = readHex kind (hexAnswer characters)
 
--- "10: line not 4 or 11 characters", first
+-- refusal 10, "line not 4 or 11 characters", is tested "first"
 unfoldable pub readLine : List ℕ → StoredLine
 readLine characters =
     cond (eqb (length characters) 4) (readAs Short characters)

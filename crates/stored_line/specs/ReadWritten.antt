@@ -10,9 +10,11 @@ use Rattle.stored_line.specs.declared.StoredLine.the-variants.{Frame}
 use Rattle.stored_line.specs.Read.{digitCount, readLine}
 use Rattle.stored_line.specs.Write.{writeLine, lineLength}
 
--- of a frame number and a buffer with room: what was written before the line feed reads as that number, and the line feed follows it
+-- of a frame number and a buffer with room: the line is written, what stands before the line feed reads as that number, and the line feed
+-- follows it
 abbrev pub ReadWritten : Type 0
 ReadWritten =
     (kind : Kind) (number : ℕ) (buffer : List ℕ) → isFrame kind number ≡ true → lineLength kind ≤ length buffer
-    → (readLine (take (digitCount kind) (writeLine kind number buffer .buffer)) ≡ Frame kind number)
+    → (writeLine kind number buffer .answer ≡ record { refusal = 0; length = lineLength kind })
+    × (readLine (take (digitCount kind) (writeLine kind number buffer .buffer)) ≡ Frame kind number)
     × (getD (writeLine kind number buffer .buffer) (digitCount kind) 0 ≡ 10)

@@ -29,7 +29,8 @@ lineOf kind number = hexDigits (digitCount kind) number ++ (10 ∷ [])
 abbrev pub refusedWrite : ℕ → List ℕ → Write
 refusedWrite refusal buffer = written (record { refusal = refusal; length = 0 }) buffer
 
--- "12: frame as a number, first"; "14: lent buffer under 5 bytes (short) or 12 (long)", "after 12"; else the line, and "its bytes beyond stay"
+-- refusal 12 for a number that is no such frame; then refusal 14: "lent buffer under 5 bytes (short) or 12 (long)"; else the line, and "its
+-- bytes beyond stay"
 unfoldable pub writeLine : Kind → ℕ → List ℕ → Write
 writeLine kind number buffer =
     cond (isFrame kind number)

@@ -1,5 +1,5 @@
-// The C interface: one exported function for each entry point, with the contract of the function
-// that it calls. include/ttcrx.h declares them. Every answer is a struct by value.
+// The C interface: one exported function for each entry point, with its full contract.
+// include/ttcrx.h declares them. Every answer is a struct by value.
 ghost use mathlib.Core.Path.{_≡_};
 ghost use Rattle.hamming.specs.Columns.{shortColumns, longColumns};
 ghost use Rattle.frame.specs.declared.Kind.the-variants.{Short, Long};

@@ -1,4 +1,6 @@
 -- `fine_delay::delay_setting` meets its contract: one test, then the arithmetic of the definition. Assumes nothing.
+use Prim.Native.Nat.{_<_}
+use native.Mathlib.Omega.{arith}
 use borrow.Author.Needs.{needs}
 use borrow.Author.Tests.{le-ltb}
 use Rattle.laws.proofs.Rules.{tests}
@@ -8,7 +10,7 @@ use Rattle.fine_delay.proofs.delay_setting.Tie as tie
 
 returns : tie.Need-returns
 unfolding byteToSetting
-returns c = search tests
+returns c = let over : 239 < c .before .args .byte = omega (arith, c .if1 .taken) in search tests
 
 mul-t5 : tie.Need-mul-t5
 mul-t5 c = search needs

@@ -1,4 +1,6 @@
 -- `frame::encode_long` meets its contract: the two tests lead to the case of the definition; the columns lent are the table. Assumes nothing.
+use Prim.Native.Nat.{_<_}
+use native.Mathlib.Omega.{arith}
 use borrow.Author.Needs.{needs}
 use borrow.Author.Tests.{le-ltb}
 use Rattle.laws.proofs.Rules.{tests}
@@ -8,11 +10,11 @@ use Rattle.frame.proofs.encode_long.Tie as tie
 
 returns : tie.Need-returns
 unfolding encodeLong
-returns c = search tests
+returns c = let over : 16383 < c .before .args .address = omega (arith, c .if1 .taken) in search tests
 
 returns-2 : tie.Need-returns-2
 unfolding encodeLong
-returns-2 c = search tests
+returns-2 c = let over : 1 < c .before .before .args .e = omega (arith, c .if2 .taken) in search tests
 
 column-table-requires : tie.Need-column-table-requires
 column-table-requires c κs = search needs

@@ -34,7 +34,7 @@ looked : (c : tie.After-decode-word)
     judgedWord (args .kind) (c .decode-word .result) ≡ judged (inUse (now (args .columns))) (args .kind) (args .number)
 unfolding judged
 looked c =
-    rw (ne-eqb _ 0 (c .before .before .before .if1 .left))
+    rw (ne-eqb _ _ (c .before .before .before .if1 .left))
     (ap (judgedWord _) (c .decode-word .ensures ∙ ap₂ (decodeWord _) (c .before .before .word-bits .ensures) (c .before .check-bits .ensures)))
 
 returns-2 : tie.Need-returns-2
