@@ -147,13 +147,14 @@ good-frame columns kind number word raised wrong = by-stop (eqb (stopBit number)
     by-stop true s g = absurd (let no-way : _≡_ {A = ℕ} 0 1 = cc in omega arith)
     by-stop false s g = by-decoded (not-zero number (eqb-false (stopBit number) 0 s)) (decoded columns (received kind number)) refl g
 
--- what is told of a decoded word is not verdict 8
-not-8 : (kind : Kind) (word : ℕ) (flag : Bool) (p : WrongBit) → answerTo kind (judgedWord kind (Word word flag p)) ≡ bareAnswer 0 8 0 → ⊥
-not-8 kind word flag p = by-fixed (fixedZero kind word)
+-- the verdict on a decoded word is 0 or 9
+not-told : (kind : Kind) (word : ℕ) (flag : Bool) (p : WrongBit) (verdict : ℕ) → (0 ≡ verdict → ⊥) → (9 ≡ verdict → ⊥)
+    → answerTo kind (judgedWord kind (Word word flag p)) ≡ bareAnswer 0 verdict 0 → ⊥
+not-told kind word flag p verdict h k = by-fixed (fixedZero kind word)
   where
-    by-fixed : (t : Bool) → answerTo kind (cond t (FixedZero word) (Good word flag p)) ≡ bareAnswer 0 8 0 → ⊥
-    by-fixed true e = let z : _≡_ {A = ℕ} 9 8 = ap (λ (x : Answer). x .verdict) e in omega arith
-    by-fixed false e = let z : _≡_ {A = ℕ} 0 8 = ap (λ (x : Answer). x .verdict) e in omega arith
+    by-fixed : (t : Bool) → answerTo kind (cond t (FixedZero word) (Good word flag p)) ≡ bareAnswer 0 verdict 0 → ⊥
+    by-fixed true e = k (ap (λ (x : Answer). x .verdict) e)
+    by-fixed false e = h (ap (λ (x : Answer). x .verdict) e)
 
 -- the number is an encoding with at most that bit flipped
 record Near (columns : List ℕ) (kind : Kind) (number word : ℕ) (raised : Bool) (wrong : WrongBit) : Type 0 where
@@ -277,25 +278,23 @@ frame-theorem columns kind len good = record {
         }
 
     exactly : Frames.UncorrectableExactly columns kind
-    exactly number i s = (none-near, answered-8)
+    exactly number i s = (
+      λ e word p h b n.
+          not-told kind word (flagOf p) p _ (λ z. omega arith) (λ z. omega arith)
+          (sym (decode-within word p h b) ∙ ap (decodeFrame columns kind) (sym n) ∙ e),
+      λ none. decodes ∙ ap answer (no-word none (decoded columns (received kind number)) refl),
+    )
       where
         decodes : decodeFrame columns kind number ≡ answer (decoded columns (received kind number))
         decodes =
             ap (decodeFrame columns kind) (sym (made-of-received kind number i) ∙ ap (frameNumber kind (received kind number)) s)
             ∙ decode-sent columns kind (received kind number) (received-fits kind number)
 
-        none-near : decodeFrame columns kind number ≡ bareAnswer 0 8 0 → Frames.NoneNear columns kind number
-        none-near e word p h b n =
-            not-8 kind word (flagOf p) p (sym (decode-within word p h b) ∙ ap (decodeFrame columns kind) (sym n) ∙ e)
-
-        by-decoded : Frames.NoneNear columns kind number → (d : Decoded) → decoded columns (received kind number) ≡ d → answer d ≡ bareAnswer 0 8 0
-        by-decoded none NoWord e = refl
-        by-decoded none (Word word raised wrong) e =
+        no-word : Frames.NoneNear columns kind number → (d : Decoded) → decoded columns (received kind number) ≡ d → d ≡ NoWord
+        no-word none NoWord e = refl
+        no-word none (Word word raised wrong) e =
             let n = near number word raised wrong i s e in
             absurd (none word wrong (n .word-below) (n .protected) (n .number-of))
-
-        answered-8 : Frames.NoneNear columns kind number → decodeFrame columns kind number ≡ bareAnswer 0 8 0
-        answered-8 none = decodes ∙ by-decoded none (decoded columns (received kind number)) refl
 
 pub short-frame-facts : Frames.ShortFrameFacts
 short-frame-facts = frame-theorem _ _ refl short-columns-good
