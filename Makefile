@@ -1,8 +1,8 @@
 # make: proves and builds the library, target/staticlib/libttcrx.a, for C, C++ and Rust; its header is include/ttcrx.h.
-# make test: the gate, from nothing: the layout of every source file, the library against the independent model, then every proof,
-# must-fail edit and program.
+# make test: the gate: the layout of the source files, the library against the independent model, then from nothing every proof and
+# must-fail edit.
 # make compare: the library against the independent model of host/, called from Rust, C and C++.
-# make fmt: put every source file in the layout.
+# make fmt: put every Rattle, antt and Rust file in the layout.
 .PHONY: library compare layout test fmt
 
 ARCHIVE = target/staticlib/libttcrx.a

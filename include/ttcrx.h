@@ -2,8 +2,8 @@
  * The C interface of the TTCrx model, libttcrx.a: frames, stored lines and fine delays.
  *
  * Every function takes every value of its arguments. Each answer begins with the number of refusal
- * of document 01: 0 is success; else every other field of the answer is 0, and no byte of a lent
- * buffer was written.
+ * of document 01, the customer's scope paper: 0 is success; else every other field of the answer is
+ * 0, and no byte of a lent buffer was written.
  *
  * A function that is lent characters or a buffer takes a pointer and a length in bytes. What the
  * caller owes: the pointer is valid for that length, for writing too where it is not const, and is

@@ -1,13 +1,14 @@
 -- What decoding answers to a frame that was encoded, and conversely, from the facts of the code. Assumes nothing.
 use mathlib.Core.Path.{_≡_, refl, sym, ap, ap₂, _∙_, subst, subst⁻¹}
 use mathlib.Core.Bool.{Bool, true, false, cond}
+use mathlib.Core.Logic.{inl, inr}
 use mathlib.Core.List.{List}
 use Prim.Native.Nat.{ℕ, _^_, _≤_, _<_}
 use native.Mathlib.Omega.{arith}
-use borrow.Author.Tests.{eqb-false}
+use borrow.Author.Tests.{eqb-true, eqb-false, ne-eqb}
 use lib.Dec.{eqb}
 use lib.ListN.{length}
-use Rattle.laws.proofs.Rules.{picks}
+use Rattle.laws.proofs.Rules.{tests, picks}
 use Rattle.hamming.specs.declared.WrongBit.{WrongBit}
 use Rattle.hamming.specs.declared.WrongBit.the-variants.{None, Check, Data}
 use Rattle.hamming.specs.declared.Decoded.{Decoded}
@@ -23,7 +24,7 @@ use Rattle.frame.specs.declared.Judged.{Judged}
 use Rattle.frame.specs.declared.Judged.the-variants.{StopZero, Uncorrectable, FixedZero, Good}
 use Rattle.frame.specs.declared.Answer.{Answer}
 use Rattle.frame.specs.Numbers.{dataBits, checkBits, frameNumber, stopBit, received, isFrame}
-use Rattle.frame.specs.Encode.{wordOf, fieldsOf, encodeWord, encodeLong}
+use Rattle.frame.specs.Encode.{wordOf, fieldsOf, encodeWord, refused13, encodeLong}
 use Rattle.frame.specs.Decode.{fixedZero, judgedWord, judged, bareAnswer, answerTo, decodeFrame}
 use Rattle.frame.specs.Frames
 use Rattle.frame.proofs.Numbers.{Fits, stop-of, received-of, is-frame-of, received-fits, made-of-received, flipped, flipped-fits, stop-flipped, lead-flipped}
@@ -36,6 +37,17 @@ encodes columns Long fields r =
     let address : fields .address ≤ 16383 = omega arith in
     let e : fields .e ≤ 1 = omega arith in
     sym (search picks)
+
+-- the second test refuses, whatever the first says
+second : (a b : Bool) (sent : Encoded) → b ≡ true → cond a refused13 (cond b refused13 sent) ≡ refused13
+second true b sent e = refl
+second false b sent e = rw e
+
+refuses : (columns : List ℕ) (kind : Kind) → Frames.RefusesOutOfRange columns kind
+unfolding encodeLong
+refuses columns Short fields o = absurd o
+refuses columns Long fields (inl over) = sym (search picks)
+refuses columns Long fields (inr over) = search (second, tests)
 
 -- ---- a frame number as it was put together
 
@@ -50,9 +62,16 @@ decode-sent : (columns : List ℕ) (kind : Kind) (sent : Coded) → Fits kind se
 unfolding decodeFrame
 decode-sent columns kind sent f = rw (is-frame-of kind sent 1 (omega arith) f, judged-sent columns kind sent f)
 
-stop-first : (columns : List ℕ) (kind : Kind) → Frames.StopFirst columns kind
+-- a stop bit of 0, and any other
+decode-stopped : (columns : List ℕ) (kind : Kind) (number : ℕ) → isFrame kind number ≡ true → stopBit number ≡ 0
+    → decodeFrame columns kind number ≡ answerTo kind StopZero
 unfolding decodeFrame judged
-stop-first columns kind number i e = rw (i, e)
+decode-stopped columns kind number i e = rw (i, e)
+
+decode-received : (columns : List ℕ) (kind : Kind) (number : ℕ) → isFrame kind number ≡ true → (stopBit number ≡ 0 → ⊥)
+    → decodeFrame columns kind number ≡ answerTo kind (judgedWord kind (decoded columns (received kind number)))
+unfolding decodeFrame judged
+decode-received columns kind number i e = rw (i, ne-eqb (stopBit number) 0 e)
 
 -- the answer to a decoded word of fields in range
 answer-good : (kind : Kind) (fields : Fields) (flag : Bool) (p : WrongBit) → Frames.InRange kind fields
@@ -72,6 +91,10 @@ flag-raised : (n w : ℕ) (p : WrongBit) → Protected n w p → flagOf p ≡ tr
 flag-raised n w None b = absurd b
 flag-raised n w (Check j) b = refl
 flag-raised n w (Data i) b = refl
+
+fixed-is-zero : (kind : Kind) (word : ℕ) → Frames.FixedIsZero kind word → fixedZero kind word ≡ true
+fixed-is-zero Short word z = absurd z
+fixed-is-zero Long word z = search tests
 
 none-or : (n w : ℕ) (p : WrongBit) → Protected n w p → NoneOrProtected n w p
 none-or n w None b = absurd b
@@ -168,6 +191,7 @@ record Near (columns : List ℕ) (kind : Kind) (number word : ℕ) (raised : Boo
 pub frame-theorem : Frames.FrameTheorem
 frame-theorem columns kind len good = record {
   encodes-in-range = encodes columns kind;
+  refuses-out-of-range = refuses columns kind;
   round-trip =
       λ fields r.
       ap (λ (x : Encoded). decodeFrame columns kind (x .number)) (encodes columns kind fields r)
@@ -177,20 +201,22 @@ frame-theorem columns kind len good = record {
       decode-within (wordOf kind fields) p (word-fits kind fields r) (none-or _ _ p b)
       ∙ ap (λ (t : Bool). answer (Word (wordOf kind fields) t p)) (flag-raised _ _ p b) ∙ answer-good kind fields true p r;
   two-flips =
-      λ fields p q r b d ne.
-      let f = flipped-fits kind (sent fields) p (fits fields r) (none-or _ _ p b) in
-      ap (λ (n : ℕ). decodeFrame columns kind (Frames.flipProtected kind q n)) (flipped kind (sent fields) 1 p (omega arith) (fits fields r) (none-or _ _ p b))
-      ∙ ap (decodeFrame columns kind) (flipped kind (flip p (sent fields)) 1 q (omega arith) f (none-or _ _ q d))
-      ∙ decode-sent columns kind (flip q (flip p (sent fields))) (flipped-fits kind (flip p (sent fields)) q f (none-or _ _ q d))
-      ∙ ap answer (corrects .two-flips (wordOf kind fields) p q (in-columns p b) (in-columns q d) ne);
+      λ word p q h b d ne.
+      let start = fits-word word h in
+      let f = flipped-fits kind (encoded columns word) p start (none-or _ _ p b) in
+      ap (λ (n : ℕ). decodeFrame columns kind (Frames.flipProtected kind q n)) (flipped kind (encoded columns word) 1 p (omega arith) start (none-or _ _ p b))
+      ∙ ap (decodeFrame columns kind) (flipped kind (flip p (encoded columns word)) 1 q (omega arith) f (none-or _ _ q d))
+      ∙ decode-sent columns kind (flip q (flip p (encoded columns word))) (flipped-fits kind (flip p (encoded columns word)) q f (none-or _ _ q d))
+      ∙ ap answer (corrects .two-flips word p q (in-columns p b) (in-columns q d) ne);
   stop-flip =
       λ fields r.
       ap (decodeFrame columns kind) (stop-flipped kind (sent fields))
-      ∙ stop-first columns kind (frameNumber kind (sent fields) 0) (is-frame-of kind (sent fields) 0 (omega arith) (fits fields r))
+      ∙ decode-stopped columns kind (frameNumber kind (sent fields) 0) (is-frame-of kind (sent fields) 0 (omega arith) (fits fields r))
       (stop-of kind (sent fields) 0 (omega arith));
   lead-flip = λ fields j r. decode-refused columns kind _ (lead-flipped kind (sent fields) 1 j (omega arith) (fits fields r));
-  stop-first = stop-first columns kind;
-  fixed-bit-zero = λ word p h z b. decode-within word p h b ∙ answer-fixed kind word (flagOf p) p z;
+  refuses-others = decode-refused columns kind;
+  stop-exactly = stop-exactly;
+  fixed-bit-zero = λ word p h z b. decode-within word p h b ∙ answer-fixed kind word (flagOf p) p (fixed-is-zero kind word z);
   uncorrectable-exactly = exactly;
   decoded-only-if = only-if;
 }
@@ -276,6 +302,18 @@ frame-theorem columns kind len good = record {
           word-is = word-of;
           in-range = subst⁻¹ (Frames.InRange kind) (a .fields-of) (fields-in-range kind word (n .word-below));
         }
+
+    stop-exactly : Frames.StopExactly columns kind
+    stop-exactly number i = (λ e. by-stop (eqb (stopBit number) 0) refl e, λ e. decode-stopped columns kind number i e)
+      where
+        told-7 : (d : Decoded) → answer d ≡ bareAnswer 0 7 0 → ⊥
+        told-7 NoWord e = let z : _≡_ {A = ℕ} 8 7 = ap (λ (x : Answer). x .verdict) e in omega arith
+        told-7 (Word word flag p) e = not-told kind word flag p 7 (λ z. omega arith) (λ z. omega arith) e
+
+        by-stop : (t : Bool) → eqb (stopBit number) 0 ≡ t → decodeFrame columns kind number ≡ bareAnswer 0 7 0 → stopBit number ≡ 0
+        by-stop true z e = eqb-true (stopBit number) 0 z
+        by-stop false z e =
+            absurd (told-7 (decoded columns (received kind number)) (sym (decode-received columns kind number i (eqb-false (stopBit number) 0 z)) ∙ e))
 
     exactly : Frames.UncorrectableExactly columns kind
     exactly number i s = (

@@ -1,9 +1,9 @@
 -- What decoding answers to a frame that was encoded, clean or damaged, and conversely; over both kinds and any good columns.
 -- Proved in proofs/Frames.antt from the facts of the code.
-use Prim.Native.Nat.{ℕ, _+_, _^_, _<_}
+use Prim.Native.Nat.{ℕ, _+_, _/_, _%_, _^_, _<_}
 use mathlib.Core.Path.{_≡_}
-use mathlib.Core.Logic.{_≢_, _↔_}
-use mathlib.Core.Bool.{true, cond}
+use mathlib.Core.Logic.{_≢_, _⊎_, _↔_}
+use mathlib.Core.Bool.{true, false, cond}
 use mathlib.Core.List.{List}
 use lib.Bits.{bitXor}
 use lib.ListN.{length}
@@ -19,7 +19,7 @@ use Rattle.frame.specs.declared.Judged.the-variants.{Good}
 use Rattle.frame.specs.declared.Answer.{Answer}
 use Rattle.frame.specs.Numbers.{dataBits, checkBits, stopBit, isFrame}
 use Rattle.frame.specs.Encode.{wordOf, encodeWord, encodeFields, broadcast, encodeShort, encodeLong}
-use Rattle.frame.specs.Decode.{fixedZero, judged, bareAnswer, decodeFrame}
+use Rattle.frame.specs.Decode.{judged, bareAnswer, decodeFrame}
 
 -- "any fields in range"; a short frame has data alone
 abbrev pub InRange : Kind → Fields → Type 0
@@ -39,7 +39,7 @@ flipStop number = bitXor number (2 ^ 0)
 abbrev pub ProtectedIn : Kind → WrongBit → Type 0
 ProtectedIn kind p = Protected (dataBits kind) (checkBits kind) p
 
--- a leading bit flipped: number 0 is the format bit, 1 the start bit, and none is protected
+-- a leading bit flipped, none of which is protected: number 0 is the format bit, 1 the start bit, and the others lie above the frame
 abbrev pub flipLead : Kind → ℕ → ℕ → ℕ
 flipLead kind j number = bitXor number (2 ^ (1 + checkBits kind + dataBits kind + j))
 
@@ -60,6 +60,14 @@ EncodesInRange columns kind =
     (fields : Fields) → InRange kind fields
     → encodeFrame columns kind fields ≡ record { refusal = 0; number = encodeFields columns kind fields }
 
+-- and refuse any others: a broadcast's byte has no range to leave
+abbrev pub OutOfRange : Kind → Fields → Type 0
+OutOfRange Short fields = ⊥
+OutOfRange Long fields = (16383 < fields .address) ⊎ (1 < fields .e)
+
+abbrev pub RefusesOutOfRange : List ℕ → Kind → Type 0
+RefusesOutOfRange columns kind = (fields : Fields) → OutOfRange kind fields → encodeFrame columns kind fields ≡ record { refusal = 13; number = 0 }
+
 -- decoding what was encoded gives the fields back, with flag 0
 abbrev pub RoundTrip : List ℕ → Kind → Type 0
 RoundTrip columns kind =
@@ -72,11 +80,11 @@ OneFlip columns kind =
     (fields : Fields) (p : WrongBit) → InRange kind fields → ProtectedIn kind p
     → decodeFrame columns kind (flipProtected kind p (encodeFields columns kind fields)) ≡ fieldsAnswer kind 1 fields
 
--- two: verdict 8
+-- two different ones, of any encoded word, also one whose fixed bit is 0: verdict 8
 abbrev pub TwoFlips : List ℕ → Kind → Type 0
 TwoFlips columns kind =
-    (fields : Fields) (p q : WrongBit) → InRange kind fields → ProtectedIn kind p → ProtectedIn kind q → p ≢ q
-    → decodeFrame columns kind (flipProtected kind q (flipProtected kind p (encodeFields columns kind fields))) ≡ bareAnswer 0 8 0
+    (word : ℕ) (p q : WrongBit) → word < 2 ^ dataBits kind → ProtectedIn kind p → ProtectedIn kind q → p ≢ q
+    → decodeFrame columns kind (flipProtected kind q (flipProtected kind p (encodeWord columns kind word))) ≡ bareAnswer 0 8 0
 
 -- the stop bit flipped: verdict 7
 abbrev pub StopFlip : List ℕ → Kind → Type 0
@@ -90,15 +98,25 @@ LeadFlip columns kind =
     (fields : Fields) (j : ℕ) → InRange kind fields
     → decodeFrame columns kind (flipLead kind j (encodeFields columns kind fields)) ≡ bareAnswer 12 0 0
 
--- a stop bit of 0 is found first, whatever the other bits are: verdict 7
-abbrev pub StopFirst : List ℕ → Kind → Type 0
-StopFirst columns kind =
-    (number : ℕ) → isFrame kind number ≡ true → stopBit number ≡ 0 → decodeFrame columns kind number ≡ bareAnswer 0 7 0
+-- whatever the other bits are: a number that is no such frame is refused by 12
+abbrev pub RefusesOthers : List ℕ → Kind → Type 0
+RefusesOthers columns kind = (number : ℕ) → isFrame kind number ≡ false → decodeFrame columns kind number ≡ bareAnswer 12 0 0
 
--- a word whose fixed bit is 0, encoded, with no bit or one protected bit flipped: verdict 9, with that word
+-- and a frame gets verdict 7 exactly when its stop bit is 0, before word and check bits count
+abbrev pub StopExactly : List ℕ → Kind → Type 0
+StopExactly columns kind =
+    (number : ℕ) → isFrame kind number ≡ true
+    → (decodeFrame columns kind number ≡ bareAnswer 0 7 0) ↔ (stopBit number ≡ 0)
+
+-- a word whose fixed bit, bit 16, is 0; a short frame has no fixed bit
+abbrev pub FixedIsZero : Kind → ℕ → Type 0
+FixedIsZero Short word = ⊥
+FixedIsZero Long word = word / 2 ^ 16 % 2 ≡ 0
+
+-- such a word encoded, with no bit or one protected bit flipped: verdict 9, with that word
 abbrev pub FixedBitZero : List ℕ → Kind → Type 0
 FixedBitZero columns kind =
-    (word : ℕ) (p : WrongBit) → word < 2 ^ dataBits kind → fixedZero kind word ≡ true → NoneOrProtected (dataBits kind) (checkBits kind) p
+    (word : ℕ) (p : WrongBit) → word < 2 ^ dataBits kind → FixedIsZero kind word → NoneOrProtected (dataBits kind) (checkBits kind) p
     → decodeFrame columns kind (flipProtected kind p (encodeWord columns kind word)) ≡ bareAnswer 0 9 word
 
 -- no encoded word is within one flip of the number
@@ -124,6 +142,7 @@ pub record EncodingOf (columns : List ℕ) (kind : Kind) (number flag word : ℕ
   pub word-is : word ≡ wordOf kind fields
   pub in-range : InRange kind fields
 
+-- whatever decodes to fields is such a number
 abbrev pub DecodedOnlyIf : List ℕ → Kind → Type 0
 DecodedOnlyIf columns kind =
     (number flag word : ℕ) (fields : Fields)
@@ -132,12 +151,14 @@ DecodedOnlyIf columns kind =
 
 pub record FrameFacts (columns : List ℕ) (kind : Kind) : Type 0 where
   pub encodes-in-range : EncodesInRange columns kind
+  pub refuses-out-of-range : RefusesOutOfRange columns kind
   pub round-trip : RoundTrip columns kind
   pub one-flip : OneFlip columns kind
   pub two-flips : TwoFlips columns kind
   pub stop-flip : StopFlip columns kind
   pub lead-flip : LeadFlip columns kind
-  pub stop-first : StopFirst columns kind
+  pub refuses-others : RefusesOthers columns kind
+  pub stop-exactly : StopExactly columns kind
   pub fixed-bit-zero : FixedBitZero columns kind
   pub uncorrectable-exactly : UncorrectableExactly columns kind
   pub decoded-only-if : DecodedOnlyIf columns kind
