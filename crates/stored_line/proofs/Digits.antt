@@ -82,4 +82,5 @@ pub length-digits : (digits number : ℕ) → length (hexDigits digits number) �
 unfolding hexDigits
 length-digits zero number = refl
 length-digits (suc digits) number =
-    length-append (hexDigits digits (number / 16)) (digitCharacter (number % 16) ∷ []) ∙ ap (λ (n : ℕ). n + 1) (length-digits digits (number / 16)) ∙ add-one digits
+    length-append (hexDigits digits (number / 16)) (digitCharacter (number % 16) ∷ [])
+    ∙ ap (λ (n : ℕ). n + 1) (length-digits digits (number / 16)) ∙ add-one digits

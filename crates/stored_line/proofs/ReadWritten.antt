@@ -42,9 +42,12 @@ number-snoc : (cs : List ℕ) (c : ℕ) → hexNumber (cs ++ (c ∷ [])) ≡ hex
 unfolding hexNumber
 number-snoc [] c = omega arith
 number-snoc (d ∷ cs) c =
-    ap₂ (λ (x y : ℕ). digitValue d * x + y) (ap (λ (n : ℕ). 16 ^ n) (length-append cs (c ∷ []) ∙ add-one (length cs)) ∙ pow-suc 16 (length cs)) (number-snoc cs c)
+    ap₂ (λ (x y : ℕ). digitValue d * x + y) one-more (number-snoc cs c)
     ∙ regroup (digitValue d) (16 ^ length cs) (hexNumber cs) (digitValue c)
   where
+    one-more : 16 ^ length (cs ++ (c ∷ [])) ≡ 16 ^ length cs * 16
+    one-more = ap (λ (n : ℕ). 16 ^ n) (length-append cs (c ∷ []) ∙ add-one (length cs)) ∙ pow-suc 16 (length cs)
+
     regroup : (v p n w : ℕ) → v * (p * 16) + (n * 16 + w) ≡ (v * p + n) * 16 + w
     regroup v p n w = omega (arith, mul-assoc v p 16)
 
@@ -58,7 +61,8 @@ all-digits : (digits number : ℕ) → allDigits (hexDigits digits number) ≡ t
 unfolding hexDigits
 all-digits zero number = digits-nil
 all-digits (suc digits) number =
-    digits-snoc (hexDigits digits (number / 16)) (digitCharacter (number % 16)) (all-digits digits (number / 16)) (rw (value-back (number % 16) (omega arith)) (omega arith))
+    digits-snoc (hexDigits digits (number / 16)) (digitCharacter (number % 16)) (all-digits digits (number / 16))
+    (rw (value-back (number % 16) (omega arith)) (omega arith))
 
 number-back : (digits number : ℕ) → number < 16 ^ digits → hexNumber (hexDigits digits number) ≡ number
 unfolding hexDigits hexNumber

@@ -48,7 +48,9 @@ encode-word-requires c κs = search needs
 
 returns-3 : tie.Need-returns-3
 unfolding encodeLong
-returns-3 c = rw (le-ltb _ _ (c .before .before .before .before .if1 .left), le-ltb _ _ (c .before .before .before .if2 .left), c .encode-word .ensures, c .before .before .column-table .ensures)
+returns-3 c =
+    let table = c .before .before in
+    rw (le-ltb _ _ (table .before .before .if1 .left), le-ltb _ _ (table .before .if2 .left), c .encode-word .ensures, table .column-table .ensures)
 
 pub encode-long-spec : {M : Type 1} → statement M
 encode-long-spec =

@@ -38,11 +38,10 @@ loop-less c = search needs
 
 loop-again : tie.Need-loop-again Inv-loop μ-loop
 loop-again c = let turn = c .before .before .loop in
-    let room = c .before .before .before .before .pre in (
+    let room : turn .at ≤ length (turn .buffer) = omega (arith, turn .inv .0, turn .inv .1, c .before .before .before .before .pre) in (
       length-set (turn .buffer) (turn .at - 1) (c .digit-character .result) ∙ turn .inv .0,
       omega (arith, turn .inv .1),
-      digit-written (turn .buffer) (turn .at) (turn .rest) _ (c .before .loop-test .taken) (omega (arith, turn .inv .0, turn .inv .1, room)) (c .digit-character .ensures)
-          ∙ turn .inv .2,
+      digit-written (turn .buffer) (turn .at) (turn .rest) _ (c .before .loop-test .taken) room (c .digit-character .ensures) ∙ turn .inv .2,
     )
 
 same-length : tie.Need-same-length Inv-loop μ-loop

@@ -67,10 +67,13 @@ add-t7 c = search needs
 
 cast-t12 : tie.Need-cast-t12
 cast-t12 c =
-    omega (arith, c .before .before .before .before .before .digit-count .ensures, count-small (c .before .before .before .before .before .before .before .before .before .args .kind))
+    let counted = c .before .before .before .before .before in
+    omega (arith, counted .digit-count .ensures, count-small (counted .before .before .before .before .args .kind))
 
 same-length : tie.Need-same-length
-same-length c = ap length (c .before .before .write-digits .ensures) ∙ rw (length-append, length-digits, length-drop, length-set) (omega (arith, c .before .before .before .before .if2 .left))
+same-length c =
+    ap length (c .before .before .write-digits .ensures)
+    ∙ rw (length-append, length-digits, length-drop, length-set) (omega (arith, c .before .before .before .before .if2 .left))
 
 returns-3 : tie.Need-returns-3
 returns-3 c =
