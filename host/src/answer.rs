@@ -21,21 +21,12 @@ pub fn decoded(answer: Result<model::Decoded, Refusal>) -> Decoded {
 }
 
 fn verdict(decoded: model::Decoded) -> Decoded {
-    let (verdict, corrected, word, fields) = match decoded {
-        model::Decoded::StopZero => (7, false, 0, model::Fields::default()),
-        model::Decoded::Uncorrectable => (8, false, 0, model::Fields::default()),
-        model::Decoded::FixedZero { word } => (9, false, word, model::Fields::default()),
-        model::Decoded::Good {
-            word,
-            corrected,
-            fields,
-        } => (0, corrected, word, fields),
-    };
+    let fields = decoded.fields;
     Decoded {
         refusal: 0,
-        verdict,
-        corrected: corrected.into(),
-        word,
+        verdict: decoded.verdict,
+        corrected: decoded.corrected.into(),
+        word: decoded.word,
         fields: Fields {
             address: fields.address,
             e: fields.e,

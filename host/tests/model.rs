@@ -16,18 +16,24 @@ fn fields(address: u16, e: u8, sub_address: u8, data: u8) -> Fields {
 }
 
 fn broadcast(data: u8, corrected: bool) -> Result<Decoded, Refusal> {
-    Ok(Decoded::Good {
-        word: data.into(),
-        corrected,
-        fields: fields(0, 0, 0, data),
-    })
+    individual(data.into(), corrected, fields(0, 0, 0, data))
 }
 
 fn individual(word: u32, corrected: bool, fields: Fields) -> Result<Decoded, Refusal> {
-    Ok(Decoded::Good {
-        word,
+    Ok(Decoded {
+        verdict: 0,
         corrected,
+        word,
         fields,
+    })
+}
+
+fn bare_verdict(verdict: u8) -> Result<Decoded, Refusal> {
+    Ok(Decoded {
+        verdict,
+        corrected: false,
+        word: 0,
+        fields: Fields::default(),
     })
 }
 
@@ -75,8 +81,8 @@ fn encodings_of_the_examples() {
 #[test]
 fn decodings_of_the_examples() {
     assert_eq!(decode_short(0x0095), broadcast(0x02, true));
-    assert_eq!(decode_short(0x0039), Ok(Decoded::Uncorrectable));
-    assert_eq!(decode_long(0x1FF_FFFF_FFFF), Ok(Decoded::Uncorrectable));
+    assert_eq!(decode_short(0x0039), bare_verdict(8));
+    assert_eq!(decode_long(0x1FF_FFFF_FFFF), bare_verdict(8));
 }
 
 #[test]
@@ -85,8 +91,8 @@ fn lines_of_the_program_example() {
     let second = fields(6, 0, 2, 0x35);
     assert_eq!(said("004F"), broadcast(0x01, false));
     assert_eq!(said("2097"), broadcast(0x02, true));
-    assert_eq!(said("004E"), Ok(Decoded::StopZero));
-    assert_eq!(said("304F"), Ok(Decoded::Uncorrectable));
+    assert_eq!(said("004E"), bare_verdict(7));
+    assert_eq!(said("304F"), bare_verdict(8));
     assert_eq!(said("100150235AD"), individual(0x0015_0235, false, first));
     assert_eq!(said("180150235AD"), individual(0x0015_0235, true, first));
     assert_eq!(said("100190235B5"), individual(0x0019_0235, false, second));
@@ -111,14 +117,14 @@ fn reencoded(number: u64, protected: u32, encode: impl Fn(u64) -> u64) -> Option
         .find(|&frame| encode(frame) == frame)
 }
 
-/// The decoder's groups of bits and the encoder's bits in the order sent are one code.
+/// The decoder's check numbers by bytes and the encoder's bits in the order sent are one code.
 #[test]
 fn short_search_agrees_with_the_encoder() {
     for number in (1..1 << 14).step_by(2) {
         let data = |frame: u64| (frame >> 6) as u8;
         let expected = match reencoded(number, 13, |frame| encode_short(data(frame))) {
             Some(frame) => broadcast(data(frame), frame != number),
-            None => Ok(Decoded::Uncorrectable),
+            None => bare_verdict(8),
         };
         assert_eq!(decode_short(number), expected, "{number:04X}");
     }
@@ -131,10 +137,8 @@ fn long_search_agrees_with_the_encoder() {
         let number = 1 << 40 | random.below(1 << 40) | 1;
         let word = |frame: u64| (frame >> 8) as u32;
         let expected = reencoded(number, 39, |frame| encode_word(word(frame)));
-        let found = match decode_long(number).expect("a long frame") {
-            Decoded::Good { word, .. } | Decoded::FixedZero { word } => Some(word),
-            Decoded::Uncorrectable | Decoded::StopZero => None,
-        };
+        let decoded = decode_long(number).expect("a long frame");
+        let found = (decoded.verdict != 8).then_some(decoded.word);
         assert_eq!(found, expected.map(word), "{number:011X}");
     }
 }
