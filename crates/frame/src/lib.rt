@@ -227,7 +227,7 @@ fn bare_answer(refusal: u8, verdict: u8, word: u32) -> Answer
 }
 
 // The answer to a frame so judged.
-fn answer_to(kind: Kind, judged: Judged) -> Answer
+pub fn answer_to(kind: Kind, judged: Judged) -> Answer
     ensures { λ r. ⌜ r ≡ answerTo kind judged ⌝ }
 {
     match judged {

@@ -1,0 +1,19 @@
+-- `receiver::channel_b::held_after` meets its contract: each arm knows what the bit left. Assumes nothing.
+use borrow.Author.Needs.{needs}
+use Rattle.receiver.proofs.channel_b.held_after.Statement.{statement}
+use Rattle.receiver.proofs.channel_b.held_after.Tie as tie
+
+enum-known-taken : tie.Need-enum-known-taken
+enum-known-taken c = search needs
+
+enum-known-taken-2 : tie.Need-enum-known-taken-2
+enum-known-taken-2 c = search needs
+
+returns : tie.Need-returns
+returns c = rw (c .before .taken .given .1)
+
+returns-2 : tie.Need-returns-2
+returns-2 c = rw (c .before .taken2 .given .1)
+
+pub held-after-spec : {M : Type 1} → statement M
+held-after-spec = tie.close (tie.spec enum-known-taken enum-known-taken-2 returns returns-2)

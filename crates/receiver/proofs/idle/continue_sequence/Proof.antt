@@ -1,0 +1,23 @@
+-- `receiver::idle::continue_sequence` meets its contract: at each exit the tests that led there pick the same row of the definition. Assumes nothing.
+use Rattle.laws.proofs.Rules.{tests}
+use Rattle.receiver.specs.IdleClock.{continued}
+use borrow.Author.Needs.{needs}
+use Rattle.receiver.proofs.idle.continue_sequence.Statement.{statement}
+use Rattle.receiver.proofs.idle.continue_sequence.Tie as tie
+
+cast-t6 : tie.Need-cast-t6
+cast-t6 c = search needs
+
+returns : tie.Need-returns
+unfolding continued
+returns c = search tests
+
+cast-t9 : tie.Need-cast-t9
+cast-t9 c = search needs
+
+returns-2 : tie.Need-returns-2
+unfolding continued
+returns-2 c = search tests
+
+pub continue-sequence-spec : {M : Type 1} → statement M
+continue-sequence-spec = tie.close (tie.spec cast-t6 returns cast-t9 returns-2)

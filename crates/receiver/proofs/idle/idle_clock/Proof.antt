@@ -1,0 +1,18 @@
+-- `receiver::idle::idle_clock` meets its contract: bus and counters are what the calls give. Assumes nothing.
+use Rattle.receiver.specs.IdleClock.{idleClock}
+use borrow.Author.Needs.{needs}
+use Rattle.receiver.proofs.idle.idle_clock.Statement.{statement}
+use Rattle.receiver.proofs.idle.idle_clock.Tie as tie
+
+bus-step-requires : tie.Need-bus-step-requires
+bus-step-requires c κs = search needs
+
+count-clock-requires : tie.Need-count-clock-requires
+count-clock-requires c κs = search needs
+
+returns : tie.Need-returns
+unfolding idleClock
+returns c = rw (c .before .count-clock .ensures, c .before .before .bus-step .ensures)
+
+pub idle-clock-spec : {M : Type 1} → statement M
+idle-clock-spec = tie.close (tie.spec bus-step-requires count-clock-requires returns)

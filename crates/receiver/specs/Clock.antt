@@ -1,0 +1,40 @@
+-- Document 01, "One clock" and "Numbers of refusal": one clock of a receiver, over the columns of each kind of frame.
+use Prim.Native.Nat.{ℕ}
+use mathlib.Core.Bool.{cond}
+use mathlib.Core.List.{List}
+use lib.Dec.{ltb}
+use Rattle.frame.specs.declared.Kind.{Kind}
+use Rattle.receiver_state.specs.declared.Held.{Held}
+use Rattle.receiver_state.specs.declared.Receiver.{Receiver}
+use Rattle.receiver.specs.declared.Outputs.{Outputs}
+use Rattle.receiver.specs.declared.Clocked.{Clocked}
+use Rattle.receiver.specs.declared.ClockAnswer.{ClockAnswer}
+use Rattle.receiver_state.specs.State.{receiver}
+use Rattle.receiver_state.specs.WellFormed.{wellFormed}
+use Rattle.receiver.specs.TakeBit.{takeBit, heldAfter}
+use Rattle.receiver.specs.IdleClock.{idleClock}
+use Rattle.receiver.specs.Fate.{applyFrame}
+
+abbrev pub clockedAnswer : Held → Clocked → ClockAnswer
+clockedAnswer held clocked = record { refusal = 0; receiver = receiver (clocked .core) held; outputs = clocked .outputs }
+
+-- the three steps: 1 and 2 are the idle clock; 3, "The channel B bit is taken, and a finished frame acts."
+unfoldable pub stepAnswer : (Kind → List ℕ) → Receiver → ℕ → ℕ → ClockAnswer
+stepAnswer columns r trigger bit =
+    clockedAnswer (heldAfter (takeBit (r .held) bit)) (applyFrame columns (takeBit (r .held) bit) (idleClock (r .core) trigger))
+
+abbrev pub noOutputs : Outputs
+noOutputs = record { trigger = 0; missed = 0; strobe = 0; number = 0; verdict = 0; corrected = 0; word = 0 }
+
+-- "A refused call returns its number with all other result fields 0 .., the state unchanged where one was given"
+abbrev pub refusedClock : ℕ → Receiver → ClockAnswer
+refusedClock refusal r = record { refusal = refusal; receiver = r; outputs = noOutputs }
+
+-- refusal 2, "state not well formed", "first"; 1, "trigger or data bit over 1", "after 2"
+unfoldable pub clockAnswer : (Kind → List ℕ) → Receiver → ℕ → ℕ → ClockAnswer
+clockAnswer columns r trigger bit =
+    cond (wellFormed r)
+    (cond (ltb 1 trigger) (refusedClock 1 r)
+    (cond (ltb 1 bit) (refusedClock 1 r)
+    (stepAnswer columns r trigger bit)))
+    (refusedClock 2 r)

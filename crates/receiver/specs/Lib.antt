@@ -1,0 +1,4 @@
+pub mod TakeBit
+pub mod IdleClock
+pub mod Fate
+pub mod Clock

@@ -1,0 +1,54 @@
+// Document 01, "Frames on channel B": the frame bits held, and the next one. No check number is
+// computed here: that waits for a whole frame.
+ghost use mathlib.Core.Path.{_≡_};
+ghost use Prim.Native.Nat.{_<_};
+ghost use Rattle.receiver_state.specs.WellFormed.{HeldFacts};
+ghost use Rattle.receiver.specs.TakeBit.{grown, takeBit, heldAfter};
+use crate::Taken;
+use frame::Kind;
+use receiver_state::Held;
+
+// What so many bits with this number are: a whole frame, or a part of one.
+fn grown_to(count: u8, bits: u64) -> Taken
+    ensures { λ r. ⌜ r ≡ grown count bits ⌝ }
+{
+    if count == 42 {
+        return Taken::Finished {
+            kind: Kind::Long,
+            number: bits,
+        };
+    }
+    if count == 16 {
+        if bits < 0x4000 {
+            return Taken::Finished {
+                kind: Kind::Short,
+                number: bits,
+            };
+        }
+    }
+    Taken::Unfinished(Held { count, bits })
+}
+
+// One bit of channel B.
+pub(crate) fn take_bit(held: Held, bit: u8) -> Taken
+    requires { ⌜ (HeldFacts held) × (bit < 2) ⌝ }
+    ensures { λ r. ⌜ r ≡ takeBit held bit ⌝ }
+{
+    if held.count == 0 {
+        if bit == 0 {
+            return Taken::Unfinished(Held { count: 1, bits: 0 });
+        }
+        return Taken::Unfinished(held);
+    }
+    grown_to(held.count + 1, held.bits * 2 + bit as u64)
+}
+
+// A finished frame leaves none.
+pub(crate) fn held_after(taken: Taken) -> Held
+    ensures { λ r. ⌜ r ≡ heldAfter taken ⌝ }
+{
+    match taken {
+        Taken::Unfinished(held) => held,
+        Taken::Finished { kind, number } => Held { count: 0, bits: 0 },
+    }
+}

@@ -1,0 +1,140 @@
+// Document 01, "One clock", steps 1 and 2: the clock with channel B idle. It sees neither the frame
+// bits held nor channel B.
+ghost use mathlib.Core.Path.{_≡_};
+ghost use Prim.Native.Nat.{_<_};
+ghost use Rattle.receiver_state.specs.WellFormed.{CountersFacts, SequenceFacts, CoreFacts};
+ghost use Rattle.receiver.specs.IdleClock.{silent, continued, started, busStep, countClock, idleClock};
+use crate::Bus;
+use crate::Clocked;
+use crate::Outputs;
+use receiver_state::Core;
+use receiver_state::Counters;
+use receiver_state::Sequence;
+
+// The bus shows nothing, and no sequence is left.
+fn silent_bus() -> Bus
+    ensures { λ r. ⌜ r ≡ silent ⌝ }
+{
+    Bus {
+        sequence: Sequence { left: 0, event: 0 },
+        strobe: 0,
+        number: 0,
+        missed: 0,
+    }
+}
+
+// The next word of a running sequence.
+fn continue_sequence(sequence: Sequence, trigger: u8) -> Bus
+    requires { ⌜ SequenceFacts sequence ⌝ }
+    ensures { λ r. ⌜ r ≡ continued sequence trigger ⌝ }
+{
+    if sequence.left == 2 {
+        return Bus {
+            sequence: Sequence {
+                left: 1,
+                event: sequence.event,
+            },
+            strobe: 2,
+            number: (sequence.event % 0x1000) as u16,
+            missed: trigger,
+        };
+    }
+    Bus {
+        sequence: Sequence { left: 0, event: 0 },
+        strobe: 3,
+        number: (sequence.event / 0x1000) as u16,
+        missed: trigger,
+    }
+}
+
+// The first word of the sequence that a trigger starts, by the mode.
+fn start_sequence(counters: Counters, mode: u8) -> Bus
+    ensures { λ r. ⌜ r ≡ started counters mode ⌝ }
+{
+    if mode == 1 {
+        return Bus {
+            sequence: Sequence { left: 0, event: 0 },
+            strobe: 1,
+            number: counters.bunch,
+            missed: 0,
+        };
+    }
+    if mode == 2 {
+        return Bus {
+            sequence: Sequence {
+                left: 1,
+                event: counters.event,
+            },
+            strobe: 2,
+            number: (counters.event % 0x1000) as u16,
+            missed: 0,
+        };
+    }
+    if mode == 3 {
+        return Bus {
+            sequence: Sequence {
+                left: 2,
+                event: counters.event,
+            },
+            strobe: 1,
+            number: counters.bunch,
+            missed: 0,
+        };
+    }
+    silent_bus()
+}
+
+fn bus_step(core: Core, trigger: u8) -> Bus
+    requires { ⌜ CoreFacts core ⌝ }
+    ensures { λ r. ⌜ r ≡ busStep core trigger ⌝ }
+{
+    if core.sequence.left > 0 {
+        return continue_sequence(core.sequence, trigger);
+    }
+    if trigger == 1 {
+        return start_sequence(core.counters, core.settings.control % 4);
+    }
+    silent_bus()
+}
+
+fn count_clock(counters: Counters, trigger: u8) -> Counters
+    requires { ⌜ CountersFacts counters ⌝ }
+    ensures { λ r. ⌜ r ≡ countClock counters trigger ⌝ }
+{
+    let bunch = (counters.bunch + 1) % 0x1000;
+    if trigger == 1 {
+        return Counters {
+            bunch,
+            event: (counters.event + 1) % 0x100_0000,
+        };
+    }
+    Counters {
+        bunch,
+        event: counters.event,
+    }
+}
+
+// The clock with channel B idle.
+pub(crate) fn idle_clock(core: Core, trigger: u8) -> Clocked
+    requires { ⌜ CoreFacts core ⌝ }
+    ensures { λ r. ⌜ r ≡ idleClock core trigger ⌝ }
+{
+    let bus = bus_step(core, trigger);
+    let counters = count_clock(core.counters, trigger);
+    let sequence = bus.sequence;
+    let mut next = core;
+    next.counters = counters;
+    next.sequence = sequence;
+    Clocked {
+        core: next,
+        outputs: Outputs {
+            trigger,
+            missed: bus.missed,
+            strobe: bus.strobe,
+            number: bus.number,
+            verdict: 0,
+            corrected: 0,
+            word: 0,
+        },
+    }
+}

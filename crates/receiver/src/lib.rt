@@ -1,0 +1,125 @@
+// Document 01, "Fate of a finished frame" and "One clock": one clock of a receiver.
+//
+// The state goes by value, in and out: see `receiver_state`.
+ghost use mathlib.Core.Path.{_≡_};
+ghost use Prim.Native.Nat.{_<_};
+ghost use Rattle.receiver_state.specs.WellFormed.{ReceiverFacts};
+ghost use Rattle.receiver.specs.Fate.{columnsOf};
+ghost use Rattle.receiver.specs.Clock.{clockedAnswer, stepAnswer, refusedClock, clockAnswer};
+use channel_b::held_after;
+use channel_b::take_bit;
+use fate::apply_frame;
+use frame::Kind;
+use idle::idle_clock;
+use receiver_state::Core;
+use receiver_state::Held;
+use receiver_state::Receiver;
+use receiver_state::Sequence;
+use receiver_state::well_formed;
+
+mod channel_b;
+mod fate;
+mod idle;
+
+// What a clock shows: trigger output and missed flag, the bus, and the frame that it finished.
+#[repr(C)]
+pub struct Outputs {
+    pub trigger: u8,
+    pub missed: u8,
+    pub strobe: u8,
+    pub number: u16,
+    pub verdict: u8,
+    pub corrected: u8,
+    pub word: u32,
+}
+
+#[repr(C)]
+pub struct ClockAnswer {
+    pub refusal: u8,
+    pub receiver: Receiver,
+    pub outputs: Outputs,
+}
+
+// What a bit of channel B leaves: the bits of an unfinished frame, or a whole frame.
+pub enum Taken {
+    Unfinished(Held),
+    Finished { kind: Kind, number: u64 },
+}
+
+// What the bus shows on a clock, and the sequence that is left.
+pub struct Bus {
+    pub sequence: Sequence,
+    pub strobe: u8,
+    pub number: u16,
+    pub missed: u8,
+}
+
+// What a clock leaves of the core, and what it shows.
+pub struct Clocked {
+    pub core: Core,
+    pub outputs: Outputs,
+}
+
+// A row of the table of verdicts: the verdict, and the core after the effect.
+pub struct Row {
+    pub verdict: u8,
+    pub core: Core,
+}
+
+// A refused clock: the state as it came, and every output 0.
+fn refuse_clock(refusal: u8, receiver: Receiver) -> ClockAnswer
+    ensures { λ r. ⌜ r ≡ refusedClock refusal receiver ⌝ }
+{
+    ClockAnswer {
+        refusal,
+        receiver,
+        outputs: Outputs {
+            trigger: 0,
+            missed: 0,
+            strobe: 0,
+            number: 0,
+            verdict: 0,
+            corrected: 0,
+            word: 0,
+        },
+    }
+}
+
+// What a clock leaves and shows, with the frame bits then held.
+fn clocked_answer(held: Held, clocked: Clocked) -> ClockAnswer
+    ensures { λ r. ⌜ r ≡ clockedAnswer held clocked ⌝ }
+{
+    let core = clocked.core;
+    let outputs = clocked.outputs;
+    ClockAnswer {
+        refusal: 0,
+        receiver: Receiver { core, held },
+        outputs,
+    }
+}
+
+// A clock of a state that is known to be well formed.
+fn step(receiver: Receiver, trigger: u8, data: u8) -> ClockAnswer
+    requires { ⌜ (ReceiverFacts receiver) × (trigger < 2) × («data» < 2) ⌝ }
+    ensures { λ r. ⌜ r ≡ stepAnswer columnsOf receiver trigger «data» ⌝ }
+{
+    let idle = idle_clock(receiver.core, trigger);
+    let taken = take_bit(receiver.held, data);
+    clocked_answer(held_after(taken), apply_frame(taken, idle))
+}
+
+// One clock, with a bit of channel A, the trigger, and one of channel B, the data.
+pub fn clock(receiver: Receiver, trigger: u8, data: u8) -> ClockAnswer
+    ensures { λ r. ⌜ r ≡ clockAnswer columnsOf receiver trigger «data» ⌝ }
+{
+    if !well_formed(receiver) {
+        return refuse_clock(2, receiver);
+    }
+    if trigger > 1 {
+        return refuse_clock(1, receiver);
+    }
+    if data > 1 {
+        return refuse_clock(1, receiver);
+    }
+    step(receiver, trigger, data)
+}

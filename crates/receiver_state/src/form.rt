@@ -1,0 +1,91 @@
+// Document 01, "Well formed": the tests of each part of a state, in the paper's order.
+ghost use mathlib.Core.Path.{_≡_};
+ghost use Prim.Native.Nat.{_<_, _^_};
+ghost use Rattle.receiver_state.specs.WellFormed.{idsOk, settingsOk, countersOk, sequenceOk, coreOk, heldOk};
+use crate::Core;
+use crate::Counters;
+use crate::Held;
+use crate::Ids;
+use crate::Sequence;
+use crate::Settings;
+
+fn ids_ok(ids: Ids) -> bool
+    ensures { λ r. ⌜ r ≡ idsOk ids ⌝ }
+{
+    if ids.id < 1 {
+        return false;
+    }
+    if ids.id > 16383 {
+        return false;
+    }
+    ids.i2c <= 63
+}
+
+// Bits 6 to 0 of both Config bytes are those of the fresh ones.
+fn settings_ok(settings: Settings) -> bool
+    ensures { λ r. ⌜ r ≡ settingsOk settings ⌝ }
+{
+    settings.config2 % 0x80 == 0x05 && settings.config3 % 0x80 == 0x27
+}
+
+fn counters_ok(counters: Counters) -> bool
+    ensures { λ r. ⌜ r ≡ countersOk counters ⌝ }
+{
+    counters.bunch < 0x1000 && counters.event < 0x100_0000
+}
+
+fn sequence_ok(sequence: Sequence) -> bool
+    ensures { λ r. ⌜ r ≡ sequenceOk sequence ⌝ }
+{
+    if sequence.left > 2 {
+        return false;
+    }
+    if sequence.event >= 0x100_0000 {
+        return false;
+    }
+    sequence.left > 0 || sequence.event == 0
+}
+
+pub(crate) fn core_ok(core: Core) -> bool
+    ensures { λ r. ⌜ r ≡ coreOk core ⌝ }
+{
+    if !ids_ok(core.ids) {
+        return false;
+    }
+    if !settings_ok(core.settings) {
+        return false;
+    }
+    if !counters_ok(core.counters) {
+        return false;
+    }
+    if !sequence_ok(core.sequence) {
+        return false;
+    }
+    core.errors.status5 <= 1
+}
+
+fn power(n: u8) -> u64
+    requires { ⌜ n < 64 ⌝ }
+    ensures { λ r. ⌜ r ≡ 2 ^ n ⌝ }
+{
+    1u64 << n
+}
+
+// At most 41 bits are held; the first is 0, and none is beyond; from 16 bits on the second is 1.
+pub(crate) fn held_ok(held: Held) -> bool
+    ensures { λ r. ⌜ r ≡ heldOk held ⌝ }
+{
+    let count = held.count;
+    let bits = held.bits;
+    if count > 41 {
+        return false;
+    }
+    if bits >= 0x100_0000_0000 {
+        return false;
+    }
+    let limit = power(count);
+    if bits * 2 >= limit {
+        return false;
+    }
+    count < 16 || bits * 4 >= limit
+}
