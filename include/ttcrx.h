@@ -1,9 +1,11 @@
 /*
- * The C interface of the TTCrx model, libttcrx.a: frames, stored lines and fine delays.
+ * The C interface of the TTCrx model, libttcrx.a: frames, stored lines, fine delays, and the
+ * receiver, clock by clock.
  *
  * Every function takes every value of its arguments. Each answer begins with the number of refusal
  * of document 01, the customer's scope paper: 0 is success; else every other field of the answer is
- * 0, and no byte of a lent buffer was written.
+ * 0, but for a state that was given, which comes back as it was, and no byte of a lent buffer was
+ * written. ttcrx_well_formed alone refuses nothing and answers a plain number.
  *
  * A function that is lent characters or a buffer takes a pointer and a length in bytes. What the
  * caller owes: the pointer is valid for that length, for writing too where it is not const, and is
@@ -73,6 +75,87 @@ typedef struct ttcrx_setting_answer {
     uint8_t setting; /* 0 to 239 */
 } ttcrx_setting_answer;
 
+/*
+ * The state of a receiver: a struct by value. Any copy may be kept and clocked further. Its ranges
+ * are those of "Well formed" in document 01; ttcrx_well_formed tests them.
+ */
+typedef struct ttcrx_ids {
+    uint16_t id; /* 1 to 16383 */
+    uint8_t i2c; /* 0 to 63 */
+} ttcrx_ids;
+
+/* Registers 0 to 3, 20 and 21. */
+typedef struct ttcrx_settings {
+    uint8_t fine1;
+    uint8_t fine2;
+    uint8_t coarse;
+    uint8_t control;
+    uint8_t config2;
+    uint8_t config3;
+} ttcrx_settings;
+
+/* The error counters, and bit 5 of the status register. */
+typedef struct ttcrx_errors {
+    uint16_t single_errors;
+    uint8_t double_errors;
+    uint8_t status5; /* 0 or 1 */
+} ttcrx_errors;
+
+typedef struct ttcrx_counters {
+    uint16_t bunch; /* under 4096 */
+    uint32_t event; /* under 2^24 */
+} ttcrx_counters;
+
+/* The words that a started sequence has still to show on the bus. */
+typedef struct ttcrx_sequence {
+    uint8_t left;   /* 0, 1 or 2 */
+    uint32_t event; /* the kept event number, under 2^24; 0 with no words left */
+} ttcrx_sequence;
+
+/* All of a receiver but the frame bits that it holds. */
+typedef struct ttcrx_core {
+    ttcrx_ids ids;
+    ttcrx_settings settings;
+    ttcrx_errors errors;
+    ttcrx_counters counters;
+    ttcrx_sequence sequence;
+} ttcrx_core;
+
+/* The bits of an unfinished frame. */
+typedef struct ttcrx_held {
+    uint8_t count; /* how many; 0 while the receiver waits for a start bit */
+    uint64_t bits; /* as a number, the first received most significant; 0 while it waits */
+} ttcrx_held;
+
+typedef struct ttcrx_receiver {
+    ttcrx_core core;
+    ttcrx_held held;
+} ttcrx_receiver;
+
+/* The answer to a request for a fresh state. */
+typedef struct ttcrx_fresh_answer {
+    uint8_t refusal;
+    ttcrx_receiver receiver; /* every field 0 with a refusal */
+} ttcrx_fresh_answer;
+
+/* What a clock shows. */
+typedef struct ttcrx_outputs {
+    uint8_t trigger;   /* the trigger output */
+    uint8_t missed;    /* 1: a trigger came while a sequence was running */
+    uint8_t strobe;    /* the bus: 0 none, 1 bunch, 2 event low, 3 event high */
+    uint16_t number;   /* the number on the bus; 0 with strobe 0 */
+    uint8_t verdict;   /* of the frame that this clock finished; 0: none finished */
+    uint8_t corrected; /* 1: one wrong bit of it was corrected */
+    uint32_t word;     /* its word, as document 01 shows it for the verdict */
+} ttcrx_outputs;
+
+/* The answer of a clock. */
+typedef struct ttcrx_clock_answer {
+    uint8_t refusal;
+    ttcrx_receiver receiver; /* the state after the clock; with a refusal, the state as given */
+    ttcrx_outputs outputs;
+} ttcrx_clock_answer;
+
 /* The short frame of a byte. Refuses nothing. */
 ttcrx_encoded ttcrx_encode_short(uint8_t data);
 
@@ -109,6 +192,21 @@ ttcrx_byte_answer ttcrx_delay_byte(uint8_t setting);
 
 /* The setting of a fine delay byte. Refusal 9: a byte over 239. */
 ttcrx_setting_answer ttcrx_delay_setting(uint8_t byte);
+
+/* Whether a state is well formed: 1 or 0. */
+uint8_t ttcrx_well_formed(ttcrx_receiver receiver);
+
+/*
+ * The fresh state of a receiver. Refusals, in this order: 3: an ID of 0 or over 16383; 4: an I2C ID
+ * over 63.
+ */
+ttcrx_fresh_answer ttcrx_fresh(uint16_t id, uint8_t i2c);
+
+/*
+ * One clock, with a bit of channel A (the trigger) and a bit of channel B (the data). Refusals, in
+ * this order: 2: a state that is not well formed; 1: a bit over 1.
+ */
+ttcrx_clock_answer ttcrx_clock(ttcrx_receiver receiver, uint8_t trigger, uint8_t data);
 
 #ifdef __cplusplus
 }

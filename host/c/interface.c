@@ -44,6 +44,64 @@ static_assert(sizeof(ttcrx_setting_answer) == 2, "setting");
 static_assert(offsetof(ttcrx_setting_answer, refusal) == 0, "setting.refusal");
 static_assert(offsetof(ttcrx_setting_answer, setting) == 1, "setting.setting");
 
+static_assert(sizeof(ttcrx_ids) == 4, "ids");
+static_assert(offsetof(ttcrx_ids, id) == 0, "ids.id");
+static_assert(offsetof(ttcrx_ids, i2c) == 2, "ids.i2c");
+
+static_assert(sizeof(ttcrx_settings) == 6, "settings");
+static_assert(offsetof(ttcrx_settings, fine1) == 0, "settings.fine1");
+static_assert(offsetof(ttcrx_settings, fine2) == 1, "settings.fine2");
+static_assert(offsetof(ttcrx_settings, coarse) == 2, "settings.coarse");
+static_assert(offsetof(ttcrx_settings, control) == 3, "settings.control");
+static_assert(offsetof(ttcrx_settings, config2) == 4, "settings.config2");
+static_assert(offsetof(ttcrx_settings, config3) == 5, "settings.config3");
+
+static_assert(sizeof(ttcrx_errors) == 4, "errors");
+static_assert(offsetof(ttcrx_errors, single_errors) == 0, "errors.single_errors");
+static_assert(offsetof(ttcrx_errors, double_errors) == 2, "errors.double_errors");
+static_assert(offsetof(ttcrx_errors, status5) == 3, "errors.status5");
+
+static_assert(sizeof(ttcrx_counters) == 8, "counters");
+static_assert(offsetof(ttcrx_counters, bunch) == 0, "counters.bunch");
+static_assert(offsetof(ttcrx_counters, event) == 4, "counters.event");
+
+static_assert(sizeof(ttcrx_sequence) == 8, "sequence");
+static_assert(offsetof(ttcrx_sequence, left) == 0, "sequence.left");
+static_assert(offsetof(ttcrx_sequence, event) == 4, "sequence.event");
+
+static_assert(sizeof(ttcrx_core) == 32, "core");
+static_assert(offsetof(ttcrx_core, ids) == 0, "core.ids");
+static_assert(offsetof(ttcrx_core, settings) == 4, "core.settings");
+static_assert(offsetof(ttcrx_core, errors) == 10, "core.errors");
+static_assert(offsetof(ttcrx_core, counters) == 16, "core.counters");
+static_assert(offsetof(ttcrx_core, sequence) == 24, "core.sequence");
+
+static_assert(sizeof(ttcrx_held) == 16, "held");
+static_assert(offsetof(ttcrx_held, count) == 0, "held.count");
+static_assert(offsetof(ttcrx_held, bits) == 8, "held.bits");
+
+static_assert(sizeof(ttcrx_receiver) == 48, "receiver");
+static_assert(offsetof(ttcrx_receiver, core) == 0, "receiver.core");
+static_assert(offsetof(ttcrx_receiver, held) == 32, "receiver.held");
+
+static_assert(sizeof(ttcrx_fresh_answer) == 56, "fresh");
+static_assert(offsetof(ttcrx_fresh_answer, refusal) == 0, "fresh.refusal");
+static_assert(offsetof(ttcrx_fresh_answer, receiver) == 8, "fresh.receiver");
+
+static_assert(sizeof(ttcrx_outputs) == 12, "outputs");
+static_assert(offsetof(ttcrx_outputs, trigger) == 0, "outputs.trigger");
+static_assert(offsetof(ttcrx_outputs, missed) == 1, "outputs.missed");
+static_assert(offsetof(ttcrx_outputs, strobe) == 2, "outputs.strobe");
+static_assert(offsetof(ttcrx_outputs, number) == 4, "outputs.number");
+static_assert(offsetof(ttcrx_outputs, verdict) == 6, "outputs.verdict");
+static_assert(offsetof(ttcrx_outputs, corrected) == 7, "outputs.corrected");
+static_assert(offsetof(ttcrx_outputs, word) == 8, "outputs.word");
+
+static_assert(sizeof(ttcrx_clock_answer) == 72, "clock");
+static_assert(offsetof(ttcrx_clock_answer, refusal) == 0, "clock.refusal");
+static_assert(offsetof(ttcrx_clock_answer, receiver) == 8, "clock.receiver");
+static_assert(offsetof(ttcrx_clock_answer, outputs) == 56, "clock.outputs");
+
 static unsigned passed = 0;
 static unsigned failed = 0;
 
@@ -96,6 +154,73 @@ static int line_is(const char *characters, uint8_t refusal, uint8_t kind, uint64
 static int written_is(ttcrx_written answer, uint8_t refusal, uint8_t length)
 {
     return answer.refusal == refusal && answer.length == length;
+}
+
+static int core_is_fresh(ttcrx_core core, uint16_t id, uint8_t i2c)
+{
+    return core.ids.id == id && core.ids.i2c == i2c && core.settings.fine1 == 0 &&
+           core.settings.fine2 == 0 && core.settings.coarse == 0 &&
+           core.settings.control == 0x93 && core.settings.config2 == 0x85 &&
+           core.settings.config3 == 0xA7 && core.errors.single_errors == 0 &&
+           core.errors.double_errors == 0 && core.errors.status5 == 1 &&
+           core.counters.bunch == 0 && core.counters.event == 0 && core.sequence.left == 0 &&
+           core.sequence.event == 0;
+}
+
+static int held_is(ttcrx_held held, uint8_t count, uint64_t bits)
+{
+    return held.count == count && held.bits == bits;
+}
+
+/* Every field of the state is 0. */
+static int state_is_zero(ttcrx_receiver receiver)
+{
+    const ttcrx_core core = receiver.core;
+    return core.ids.id == 0 && core.ids.i2c == 0 && core.settings.fine1 == 0 &&
+           core.settings.fine2 == 0 && core.settings.coarse == 0 && core.settings.control == 0 &&
+           core.settings.config2 == 0 && core.settings.config3 == 0 &&
+           core.errors.single_errors == 0 && core.errors.double_errors == 0 &&
+           core.errors.status5 == 0 && core.counters.bunch == 0 && core.counters.event == 0 &&
+           core.sequence.left == 0 && core.sequence.event == 0 && held_is(receiver.held, 0, 0);
+}
+
+static int counters_are(ttcrx_core core, uint16_t bunch, uint32_t event)
+{
+    return core.counters.bunch == bunch && core.counters.event == event;
+}
+
+static int bus_is(ttcrx_outputs outputs, uint8_t missed, uint8_t strobe, uint16_t number)
+{
+    return outputs.missed == missed && outputs.strobe == strobe && outputs.number == number;
+}
+
+static int fate_is(ttcrx_outputs outputs, uint8_t verdict, uint8_t corrected, uint32_t word)
+{
+    return outputs.verdict == verdict && outputs.corrected == corrected && outputs.word == word;
+}
+
+/* A refused clock of a state that is fresh but for its status bit 5. */
+static int clock_refused(ttcrx_clock_answer answer, uint8_t refusal, uint8_t status5)
+{
+    ttcrx_core core = answer.receiver.core;
+    const int status_kept = core.errors.status5 == status5;
+    core.errors.status5 = 1;
+    return answer.refusal == refusal && status_kept && core_is_fresh(core, 5, 5) &&
+           held_is(answer.receiver.held, 0, 0) && answer.outputs.trigger == 0 &&
+           bus_is(answer.outputs, 0, 0, 0) && fate_is(answer.outputs, 0, 0, 0);
+}
+
+/* The bits of a frame, without triggers. The outputs are those of the last bit. */
+static ttcrx_clock_answer send_frame(ttcrx_receiver receiver, unsigned length, uint64_t number)
+{
+    ttcrx_clock_answer answer;
+    memset(&answer, 0, sizeof answer);
+    answer.receiver = receiver;
+    while (length > 0) {
+        length--;
+        answer = ttcrx_clock(answer.receiver, 0, (uint8_t)(number >> length & 1));
+    }
+    return answer;
 }
 
 static void check_encoders(void)
@@ -210,6 +335,86 @@ static void check_delays(void)
     check(ttcrx_delay_setting(240).setting == 0, "setting of byte 240");
 }
 
+static void check_fresh(void)
+{
+    ttcrx_fresh_answer fresh = ttcrx_fresh(16383, 63);
+    ttcrx_fresh_answer id_refused = ttcrx_fresh(16384, 64);
+    ttcrx_fresh_answer i2c_refused = ttcrx_fresh(16383, 64);
+    check(fresh.refusal == 0, "fresh state");
+    check(core_is_fresh(fresh.receiver.core, 16383, 63), "registers of a fresh state");
+    check(held_is(fresh.receiver.held, 0, 0), "a fresh state waits");
+    check(ttcrx_well_formed(fresh.receiver) == 1, "a fresh state is well formed");
+    check(id_refused.refusal == 3 && state_is_zero(id_refused.receiver), "ID 16384 refused");
+    check(ttcrx_fresh(0, 0).refusal == 3, "ID 0 refused");
+    check(i2c_refused.refusal == 4 && state_is_zero(i2c_refused.receiver), "I2C ID 64 refused");
+}
+
+/* Triggers on clocks 1, 2 and 4. */
+static void check_triggers(void)
+{
+    static const uint8_t triggers[6] = {1, 1, 0, 1, 0, 0};
+    static const uint8_t missed[6] = {0, 1, 0, 0, 0, 0};
+    static const uint8_t strobes[6] = {1, 2, 3, 1, 2, 3};
+    static const uint16_t numbers[6] = {0, 0, 0, 3, 2, 0};
+    ttcrx_receiver receiver = ttcrx_fresh(5, 5).receiver;
+    size_t i;
+    for (i = 0; i < 6; i++) {
+        ttcrx_clock_answer answer = ttcrx_clock(receiver, triggers[i], 1);
+        check(answer.refusal == 0, "clock with triggers");
+        check(answer.outputs.trigger == triggers[i], "trigger output");
+        check(bus_is(answer.outputs, missed[i], strobes[i], numbers[i]), "bus");
+        check(fate_is(answer.outputs, 0, 0, 0), "no frame on idle");
+        receiver = answer.receiver;
+        if (i == 3) {
+            check(receiver.core.sequence.left == 2 && receiver.core.sequence.event == 2,
+                  "kept event number of clock 4");
+        }
+    }
+    check(counters_are(receiver.core, 6, 3), "counters after the triggers");
+    check(receiver.core.sequence.left == 0 && receiver.core.sequence.event == 0,
+          "no kept event number after the sequence");
+}
+
+static void check_received_frames(void)
+{
+    ttcrx_receiver fresh = ttcrx_fresh(5, 5).receiver;
+    ttcrx_clock_answer part = send_frame(fresh, 15, 0x004F >> 1);
+    ttcrx_clock_answer clean = send_frame(fresh, 16, 0x004F);
+    ttcrx_clock_answer corrected = send_frame(clean.receiver, 16, 0x2097);
+    ttcrx_clock_answer stop = send_frame(corrected.receiver, 16, 0x004E);
+    ttcrx_clock_answer written = send_frame(stop.receiver, 42, UINT64_C(0x100150235AD));
+    ttcrx_clock_answer reset = send_frame(written.receiver, 42, UINT64_C(0x100150600F3));
+    check(fate_is(part.outputs, 0, 0, 0), "15 bits of 004F");
+    check(held_is(part.receiver.held, 15, 0x004F >> 1), "held bits of 004F");
+    check(fate_is(clean.outputs, 1, 0, 0x01), "004F received");
+    check(counters_are(clean.receiver.core, 0, 0), "004F clears the bunch counter");
+    check(fate_is(corrected.outputs, 1, 1, 0x02), "2097 received");
+    check(corrected.receiver.core.errors.single_errors == 1, "2097 is a single error");
+    check(counters_are(corrected.receiver.core, 16, 0), "2097 leaves the bunch counter");
+    check(fate_is(stop.outputs, 7, 0, 0), "004E received");
+    check(stop.receiver.core.errors.double_errors == 1, "004E is a double error");
+    check(stop.receiver.core.errors.status5 == 0, "004E clears status bit 5");
+    check(fate_is(written.outputs, 2, 0, 0x00150235), "100150235AD received");
+    check(written.receiver.core.settings.coarse == 0x35, "100150235AD is written");
+    check(written.receiver.core.errors.status5 == 1, "100150235AD sets status bit 5");
+    check(fate_is(reset.outputs, 3, 0, 0x00150600), "100150600F3 received");
+    check(core_is_fresh(reset.receiver.core, 5, 5), "RESET makes a fresh state");
+    check(held_is(reset.receiver.held, 0, 0), "it waits after RESET");
+}
+
+static void check_refused_clocks(void)
+{
+    ttcrx_receiver fresh = ttcrx_fresh(5, 5).receiver;
+    ttcrx_receiver ill_formed = fresh;
+    ill_formed.core.errors.status5 = 2;
+    check(ttcrx_well_formed(ill_formed) == 0, "status bit 5 of 2 is not well formed");
+    check(clock_refused(ttcrx_clock(ill_formed, 1, 0), 2, 2), "ill-formed state refused");
+    check(clock_refused(ttcrx_clock(ill_formed, 2, 2), 2, 2), "2 comes before 1");
+    check(clock_refused(ttcrx_clock(fresh, 2, 0), 1, 1), "trigger 2 refused");
+    check(clock_refused(ttcrx_clock(fresh, 1, 2), 1, 1), "data 2 refused");
+    check(clock_refused(ttcrx_clock(fresh, 255, 255), 1, 1), "bits of 255 refused");
+}
+
 int main(void)
 {
     check_encoders();
@@ -219,6 +424,10 @@ int main(void)
     check_short_writer();
     check_long_writer();
     check_delays();
+    check_fresh();
+    check_triggers();
+    check_received_frames();
+    check_refused_clocks();
     if (failed != 0) {
         return 1;
     }

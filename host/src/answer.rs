@@ -1,8 +1,10 @@
 //! The model's answers in the structs of ttcrx.h, so that whole answers can be compared.
-//! Of a refused call every field but the number of refusal is 0.
+//! Of a refused call every field but the number of refusal is 0; a state that was given comes back.
 
-use crate::ffi::{Byte, Decoded, Encoded, Fields, Line, Setting, Written};
+use crate::ffi::{self, Byte, Decoded, Encoded, Fields, Line, Setting, Written};
+use crate::ffi::{ClockAnswer, FreshAnswer};
 use crate::model::{self, Kind, Refusal};
+use crate::receiver::{self, Bus, Receiver};
 
 pub fn encoded(answer: Result<u64, Refusal>) -> Encoded {
     let refused = |refusal| Encoded {
@@ -84,4 +86,82 @@ pub fn setting(answer: Result<u8, Refusal>) -> Setting {
         refusal: 0,
         setting,
     })
+}
+
+/// The answer of `ttcrx_well_formed`.
+pub fn well_formed(state: &ffi::Receiver) -> u8 {
+    Receiver::from_state(state).is_some().into()
+}
+
+/// The answer of `ttcrx_fresh`.
+pub fn fresh(id: u16, i2c: u8) -> FreshAnswer {
+    let refused = |refusal| FreshAnswer {
+        refusal: refusal as u8,
+        ..FreshAnswer::default()
+    };
+    Receiver::fresh(id, i2c).map_or_else(refused, |receiver| FreshAnswer {
+        refusal: 0,
+        receiver: receiver.state(),
+    })
+}
+
+/// The answer of `ttcrx_clock`.
+pub fn clock(state: ffi::Receiver, trigger: u8, data: u8) -> ClockAnswer {
+    let refused = |refusal| ClockAnswer {
+        refusal: refusal as u8,
+        receiver: state,
+        ..ClockAnswer::default()
+    };
+    let answer = clocked(&state, trigger, data);
+    answer.map_or_else(refused, |(receiver, outputs)| {
+        clock_done(&receiver, outputs)
+    })
+}
+
+/// "Numbers of refusal", 2 and then 1; else the state after the clock and what the clock shows.
+fn clocked(
+    state: &ffi::Receiver,
+    trigger: u8,
+    data: u8,
+) -> Result<(Receiver, receiver::Outputs), receiver::Refusal> {
+    let mut receiver = Receiver::from_state(state).ok_or(receiver::Refusal::State)?;
+    if trigger > 1 || data > 1 {
+        return Err(receiver::Refusal::Bit);
+    }
+    let outputs = receiver.clock(trigger == 1, data == 1);
+    Ok((receiver, outputs))
+}
+
+/// The answer of a clock that is not refused: the receiver after it, and what it shows.
+#[inline]
+pub fn clock_done(receiver: &Receiver, outputs: receiver::Outputs) -> ClockAnswer {
+    ClockAnswer {
+        refusal: 0,
+        receiver: receiver.state(),
+        outputs: outputs_of(outputs),
+    }
+}
+
+fn outputs_of(outputs: receiver::Outputs) -> ffi::Outputs {
+    let (strobe, number) = bus(outputs.bus);
+    let fate = outputs.fate;
+    ffi::Outputs {
+        trigger: outputs.trigger.into(),
+        missed: outputs.missed.into(),
+        strobe,
+        number,
+        verdict: fate.verdict as u8,
+        corrected: fate.corrected.into(),
+        word: fate.word,
+    }
+}
+
+/// The strobe kind and the number on the bus.
+fn bus(bus: Bus) -> (u8, u16) {
+    match bus {
+        Bus::None => (0, 0),
+        Bus::Bunch(number) => (1, number),
+        Bus::EventLow(number) => (2, number),
+        Bus::EventHigh(number) => (3, number),
+    }
 }

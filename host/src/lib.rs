@@ -2,7 +2,12 @@
 
 pub mod answer;
 pub mod cases;
+pub mod compare;
+pub mod coverage;
 pub mod ffi;
 pub mod model;
 pub mod random;
+pub mod receiver;
+pub mod states;
+pub mod traffic;
 pub mod ttcrx;

@@ -1,6 +1,7 @@
 //! The functions of the archive as safe ones: a slice stands for pointer and length.
 
 use crate::ffi::{self, Byte, Decoded, Encoded, Line, Setting, Written};
+use crate::ffi::{ClockAnswer, FreshAnswer, Receiver};
 
 pub fn encode_short(data: u8) -> Encoded {
     // SAFETY: takes every value and no pointer.
@@ -45,6 +46,21 @@ pub fn delay_byte(setting: u8) -> Byte {
 pub fn delay_setting(byte: u8) -> Setting {
     // SAFETY: takes every value and no pointer.
     unsafe { ffi::ttcrx_delay_setting(byte) }
+}
+
+pub fn well_formed(receiver: Receiver) -> u8 {
+    // SAFETY: takes every value and no pointer.
+    unsafe { ffi::ttcrx_well_formed(receiver) }
+}
+
+pub fn fresh(id: u16, i2c: u8) -> FreshAnswer {
+    // SAFETY: takes every value and no pointer.
+    unsafe { ffi::ttcrx_fresh(id, i2c) }
+}
+
+pub fn clock(receiver: Receiver, trigger: u8, data: u8) -> ClockAnswer {
+    // SAFETY: takes every value and no pointer.
+    unsafe { ffi::ttcrx_clock(receiver, trigger, data) }
 }
 
 /// An empty line may be lent as a null pointer.

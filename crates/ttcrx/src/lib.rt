@@ -1,6 +1,7 @@
 // The C interface: one exported function for each entry point, with its full contract.
 // include/ttcrx.h declares them. Every answer is a struct by value.
 ghost use mathlib.Core.Path.{_≡_};
+ghost use mathlib.Core.Bool.{cond};
 ghost use Rattle.hamming.specs.Columns.{shortColumns, longColumns};
 ghost use Rattle.frame.specs.declared.Kind.the-variants.{Short, Long};
 ghost use Rattle.frame.specs.Encode.{encodeShort, encodeLong};
@@ -8,6 +9,10 @@ ghost use Rattle.frame.specs.Decode.{decodeFrame};
 ghost use Rattle.stored_line.specs.Read.{readLine, lineAnswer};
 ghost use Rattle.stored_line.specs.Write.{written, writeLine};
 ghost use Rattle.fine_delay.specs.Delay.{settingToByte, byteToSetting};
+ghost use Rattle.receiver_state.specs.State.{freshAnswer};
+ghost use Rattle.receiver_state.specs.WellFormed.{wellFormed};
+ghost use Rattle.receiver.specs.Fate.{columnsOf};
+ghost use Rattle.receiver.specs.Clock.{clockAnswer};
 use fine_delay::DelayByte;
 use fine_delay::DelaySetting;
 use fine_delay::delay_byte;
@@ -19,6 +24,12 @@ use frame::decode_long;
 use frame::decode_short;
 use frame::encode_long;
 use frame::encode_short;
+use receiver::ClockAnswer;
+use receiver::clock;
+use receiver_state::FreshAnswer;
+use receiver_state::Receiver;
+use receiver_state::fresh;
+use receiver_state::well_formed;
 use stored_line::LineAnswer;
 use stored_line::Written;
 use stored_line::line_answer;
@@ -86,4 +97,28 @@ pub extern "C" fn ttcrx_delay_setting(byte: u8) -> DelaySetting
     ensures { λ r. ⌜ r ≡ byteToSetting byte ⌝ }
 {
     delay_setting(byte)
+}
+
+#[no_mangle]
+pub extern "C" fn ttcrx_well_formed(receiver: Receiver) -> u8
+    ensures { λ r. ⌜ r ≡ cond (wellFormed receiver) 1 0 ⌝ }
+{
+    if well_formed(receiver) {
+        return 1;
+    }
+    0
+}
+
+#[no_mangle]
+pub extern "C" fn ttcrx_fresh(id: u16, i2c: u8) -> FreshAnswer
+    ensures { λ r. ⌜ r ≡ freshAnswer id i2c ⌝ }
+{
+    fresh(id, i2c)
+}
+
+#[no_mangle]
+pub extern "C" fn ttcrx_clock(receiver: Receiver, trigger: u8, data: u8) -> ClockAnswer
+    ensures { λ r. ⌜ r ≡ clockAnswer columnsOf receiver trigger «data» ⌝ }
+{
+    clock(receiver, trigger, data)
 }

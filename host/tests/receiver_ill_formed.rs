@@ -1,0 +1,269 @@
+//! Refusals of the library's clock against the model: states that are not well formed, bits over 1.
+
+use ttcrx_host::cases::Cases;
+use ttcrx_host::ffi::{ClockAnswer, Held, Receiver, Sequence};
+use ttcrx_host::random::Random;
+use ttcrx_host::{compare, states, traffic, ttcrx};
+
+const EVENTS: u32 = 1 << 24;
+
+/// A refused clock: the state as given, the outputs 0.
+fn refused(refusal: u8, state: Receiver) -> ClockAnswer {
+    ClockAnswer {
+        refusal,
+        receiver: state,
+        ..ClockAnswer::default()
+    }
+}
+
+/// The state is refused by 2 with all bits, those over 1 among them; or it is well formed.
+fn expect(cases: &mut Cases, name: &str, state: Receiver, good: bool) {
+    let library = compare::well_formed(cases, state);
+    cases.same((name, state), library, good.into());
+    for trigger in [0, 1, 2, 255] {
+        for data in [0, 1, 2, 255] {
+            let library = compare::clock(cases, state, trigger, data);
+            let expected = match good {
+                false => refused(2, state),
+                true if trigger > 1 || data > 1 => refused(1, state),
+                true => continue,
+            };
+            cases.same((name, state, trigger, data), library, expected);
+        }
+    }
+}
+
+/// A change of a well-formed state, and whether it stays well formed.
+type Edge = (&'static str, bool, fn(&mut Receiver));
+
+const IDS: [Edge; 9] = [
+    ("ID 0", false, |state| state.core.ids.id = 0),
+    ("ID 1", true, |state| state.core.ids.id = 1),
+    ("ID 16383", true, |state| state.core.ids.id = 16383),
+    ("ID 16384", false, |state| state.core.ids.id = 16384),
+    ("ID 65535", false, |state| state.core.ids.id = 65535),
+    ("I2C ID 0", true, |state| state.core.ids.i2c = 0),
+    ("I2C ID 63", true, |state| state.core.ids.i2c = 63),
+    ("I2C ID 64", false, |state| state.core.ids.i2c = 64),
+    ("I2C ID 255", false, |state| state.core.ids.i2c = 255),
+];
+
+const NUMBERS: [Edge; 10] = [
+    ("bunch 4095", true, |state| state.core.counters.bunch = 4095),
+    ("bunch 4096", false, |state| {
+        state.core.counters.bunch = 4096
+    }),
+    ("bunch 65535", false, |state| {
+        state.core.counters.bunch = 65535
+    }),
+    ("event 2^24 - 1", true, |state| {
+        state.core.counters.event = EVENTS - 1
+    }),
+    ("event 2^24", false, |state| {
+        state.core.counters.event = EVENTS
+    }),
+    ("event 2^32 - 1", false, |state| {
+        state.core.counters.event = u32::MAX
+    }),
+    ("status bit 5 is 0", true, |state| {
+        state.core.errors.status5 = 0
+    }),
+    ("status bit 5 is 1", true, |state| {
+        state.core.errors.status5 = 1
+    }),
+    ("status bit 5 is 2", false, |state| {
+        state.core.errors.status5 = 2
+    }),
+    ("status bit 5 is 255", false, |state| {
+        state.core.errors.status5 = 255
+    }),
+];
+
+/// No clause limits these.
+const FREE: [Edge; 6] = [
+    ("fine delays 255", true, |state| {
+        state.core.settings.fine1 = 255;
+        state.core.settings.fine2 = 255;
+    }),
+    ("fine delays 240", true, |state| {
+        state.core.settings.fine1 = 240;
+        state.core.settings.fine2 = 240;
+    }),
+    ("coarse delay 255", true, |state| {
+        state.core.settings.coarse = 255
+    }),
+    ("control 255", true, |state| {
+        state.core.settings.control = 255
+    }),
+    ("single errors 65535", true, |state| {
+        state.core.errors.single_errors = 65535
+    }),
+    ("double errors 255", true, |state| {
+        state.core.errors.double_errors = 255
+    }),
+];
+
+#[test]
+fn edges_of_ids_and_numbers() {
+    let mut cases = Cases::of("states with an ID or a number at its edge");
+    let mut random = Random::new(50);
+    for (name, good, change) in IDS.into_iter().chain(NUMBERS).chain(FREE) {
+        for _ in 0..200 {
+            let mut state = states::well_formed(&mut random);
+            change(&mut state);
+            expect(&mut cases, name, state, good);
+        }
+    }
+    cases.at_least(25 * 200 * 30);
+}
+
+#[test]
+fn every_config_byte() {
+    let mut cases = Cases::of("states with every Config byte");
+    let mut random = Random::new(51);
+    for byte in 0..=255 {
+        for _ in 0..10 {
+            let mut state = states::well_formed(&mut random);
+            state.core.settings.config2 = byte;
+            expect(&mut cases, "Config 2", state, byte == 0x85 || byte == 0x05);
+            let mut state = states::well_formed(&mut random);
+            state.core.settings.config3 = byte;
+            expect(&mut cases, "Config 3", state, byte == 0xA7 || byte == 0x27);
+        }
+    }
+    cases.at_least(256 * 10 * 2 * 25);
+}
+
+#[test]
+fn every_number_of_words_left() {
+    let mut cases = Cases::of("states with every number of words left");
+    let mut random = Random::new(52);
+    for left in 0..=255 {
+        for event in [0, 1, 4095, 4096, EVENTS - 1, EVENTS, EVENTS + 1, u32::MAX] {
+            let good = match left {
+                0 => event == 0,
+                1 | 2 => event < EVENTS,
+                _ => false,
+            };
+            for _ in 0..5 {
+                let mut state = states::well_formed(&mut random);
+                state.core.sequence = Sequence { left, event };
+                expect(&mut cases, "words left", state, good);
+            }
+        }
+    }
+    cases.at_least(256 * 8 * 5 * 25);
+}
+
+/// The front of a frame; of a whole one, all of it.
+fn front(frame: traffic::Frame, count: u8) -> Held {
+    Held {
+        count,
+        bits: frame.number >> (frame.length - count),
+    }
+}
+
+/// Fronts of frames: good while a bit is missing, bad with start 1, or with any bit beyond.
+fn fronts(cases: &mut Cases, state: Receiver, frame: traffic::Frame) {
+    for count in 1..=frame.length {
+        let held = front(frame, count);
+        let good = count < frame.length;
+        expect(cases, "front of a frame", Receiver { held, ..state }, good);
+        for place in count - 1..64 {
+            let mut held = held;
+            held.bits |= 1 << place;
+            let name = "start 1, or a bit beyond";
+            expect(cases, name, Receiver { held, ..state }, false);
+        }
+    }
+}
+
+#[test]
+fn held_bits_of_frames() {
+    let mut cases = Cases::of("states with the front of a frame, and bits beyond");
+    let mut random = Random::new(53);
+    let mut lengths = [0; 2];
+    for _ in 0..60 {
+        let state = states::well_formed(&mut random);
+        let frame = traffic::frame(&mut random, state.core.ids.id);
+        lengths[usize::from(frame.length > 16)] += 1;
+        fronts(&mut cases, state, frame);
+    }
+    assert!(lengths.iter().all(|&count| count > 9), "{lengths:?}");
+    cases.at_least(1_000_000);
+}
+
+/// With format 0 there are at most 15 bits, with format 1 at most 41; a waiting one holds none.
+/// The greatest 1 of the bits stands at the format bit, behind it, or before it.
+#[test]
+fn every_number_of_held_bits() {
+    let mut cases = Cases::of("states with every number of held bits");
+    let mut random = Random::new(54);
+    for count in 0..=255u8 {
+        let state = states::well_formed(&mut random);
+        let mut number = |bits, good| {
+            let held = Held { count, bits };
+            expect(&mut cases, "held", Receiver { held, ..state }, good);
+        };
+        number(0, count <= 15);
+        for place in 0..64 {
+            let long = place + 2 == count && count <= 41;
+            let short = place + 2 < count && count <= 15;
+            for bits in [1 << place, 1 << place | 1, u64::MAX >> (63 - place)] {
+                number(bits, long || short);
+            }
+        }
+    }
+    cases.at_least(256 * (1 + 64 * 3) * 25);
+}
+
+#[test]
+fn random_garbage() {
+    let mut cases = Cases::of("random states, some well formed");
+    let mut random = Random::new(55);
+    let mut seen = [0u32; 2];
+    for _ in 0..1_000_000 {
+        let garbage = states::garbage(&mut random);
+        let good = states::well_formed(&mut random);
+        for state in [garbage, states::mixed(&mut random, good, &garbage)] {
+            let library = compare::well_formed(&mut cases, state);
+            seen[usize::from(library)] += 1;
+            let (trigger, data) = (random.byte() % 3, random.byte() % 3);
+            compare::clock(&mut cases, state, trigger, data);
+        }
+    }
+    assert!(seen.iter().all(|&count| count > 100_000), "{seen:?}");
+    cases.at_least(4_000_000);
+}
+
+/// 2 comes before 1: the bits of a state that is not well formed are not looked at.
+#[test]
+fn every_combination_of_bits() {
+    let mut cases = Cases::of("every trigger byte with every data byte");
+    let fresh = ttcrx::fresh(5, 5).receiver;
+    let mut running = fresh;
+    running.core.sequence = Sequence { left: 2, event: 7 };
+    running.held = Held {
+        count: 41,
+        bits: 0x80_0A81_1AD6,
+    };
+    let mut ill_formed = running;
+    ill_formed.core.errors.status5 = 2;
+    for trigger in 0..=255 {
+        for data in 0..=255 {
+            for state in [fresh, running, ill_formed] {
+                let library = compare::clock(&mut cases, state, trigger, data);
+                let expected = match (state == ill_formed, trigger > 1 || data > 1) {
+                    (true, _) => 2,
+                    (false, over) => over.into(),
+                };
+                cases.same((state, trigger, data), library.refusal, expected);
+                if expected != 0 {
+                    let expected = refused(expected, state);
+                    cases.same((state, trigger, data), library, expected);
+                }
+            }
+        }
+    }
+    cases.at_least(65536 * 3 * 2);
+}
