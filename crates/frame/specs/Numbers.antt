@@ -22,6 +22,10 @@ abbrev pub formatBit : Kind → ℕ
 formatBit Short = 0
 formatBit Long = 1
 
+-- "16 bits", "42 bits": start, format, data, check bits and stop
+abbrev pub frameBits : Kind → ℕ
+frameBits kind = 2 + dataBits kind + checkBits kind + 1
+
 -- start, format, word, check bits and stop, one behind the other; the start bit is 0 and adds nothing to the number
 abbrev pub frameNumber : Kind → Coded → ℕ → ℕ
 frameNumber kind sent stop = ((formatBit kind * 2 ^ dataBits kind + sent .bits) * 2 ^ checkBits kind + sent .check) * 2 + stop

@@ -2,3 +2,4 @@ pub mod TakeBit
 pub mod IdleClock
 pub mod Fate
 pub mod Clock
+pub mod Laws

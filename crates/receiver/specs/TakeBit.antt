@@ -5,7 +5,7 @@ use mathlib.Core.Path.{_≡_}
 use mathlib.Core.Bool.{cond, _&&_}
 use lib.Dec.{eqb}
 use Rattle.frame.specs.declared.Kind.the-variants.{Short, Long}
-use Rattle.frame.specs.Numbers.{isFrame}
+use Rattle.frame.specs.Numbers.{frameBits, isFrame}
 use Rattle.receiver_state.specs.declared.Held.{Held}
 use Rattle.receiver.specs.declared.Taken.{Taken}
 use Rattle.receiver.specs.declared.Taken.the-variants.{Unfinished, Finished}
@@ -15,8 +15,8 @@ use Rattle.receiver_state.specs.State.{holding, nothingHeld}
 -- what so many bits with this number are: a long frame has 42 bits, a short one 16, with start 0 and format 0
 unfoldable pub grown : ℕ → ℕ → Taken
 grown count bits =
-    cond (eqb count 42) (Finished Long bits)
-    (cond (eqb count 16 && isFrame Short bits) (Finished Short bits)
+    cond (eqb count (frameBits Long)) (Finished Long bits)
+    (cond (eqb count (frameBits Short) && isFrame Short bits) (Finished Short bits)
     (Unfinished (holding count bits)))
 
 -- "Idle is 1", and the start bit is 0; any other bit comes behind the bits held ("first bit sent = most significant")

@@ -1,1 +1,3 @@
 pub mod WellFormed
+pub mod HeldBits
+pub mod States

@@ -1,4 +1,4 @@
--- Document 01, "Well formed": the tests of a state, for refusal 2, and the same as facts, for the proofs. `WellFormedLaw` of Laws.antt says
+-- Document 01, "Well formed": the tests of a state, for refusal 2, and the same as facts, for the proofs. `WellFormedLaw` of States.antt says
 -- that they agree.
 use Prim.Native.Nat.{ℕ, _*_, _%_, _^_, _<_, _≤_}
 use mathlib.Core.Path.{_≡_}
@@ -50,7 +50,7 @@ coreOk core =
 
 -- "the receiver is waiting, or holds 1 to 15 bits of a short or 1 to 41 of a long frame, start and format as required, and no bits beyond":
 -- at most 41 bits; the first is 0, no bit stands beyond, and waiting holds none; from 16 bits on the second is 1.
--- `HeldLaw` of Laws.antt says it in the paper's words.
+-- `HeldLaw` of States.antt says it in the paper's words.
 unfoldable pub heldOk : Held → Bool
 heldOk h =
     every

@@ -1,0 +1,5 @@
+pub mod TakeBit
+pub mod Keep
+mod Counts
+mod Executed
+pub mod Laws
