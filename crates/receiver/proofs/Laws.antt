@@ -31,9 +31,11 @@ use Rattle.receiver.specs.IdleClock.{idleClock}
 use Rattle.receiver.specs.Fate.{columnsOf, isShort, foreign, fate, decodedFrame, countErrors, finished, applyFrame}
 use Rattle.receiver.specs.Clock.{clockedAnswer, stepAnswer, refusedClock, clockAnswer}
 use Rattle.receiver.specs.Laws as laws
-use Rattle.receiver.specs.Laws.{Accepted, Stands, CountersMove, GoodTables, ClockTheorem, ReceiverLaws}
+use Rattle.receiver.specs.Laws.{BusNumbers, CountersAdvance, Accepted, Stands, ErrorsMove, GoodTables, ClockTheorem, ReceiverLaws}
 use Rattle.receiver.proofs.TakeBit.{TakenFacts, taken-facts}
 use Rattle.receiver.proofs.Keep.{step-facts}
+use Rattle.receiver.proofs.BusShows.{idle-bus}
+use Rattle.receiver.proofs.Advance.{idle-verdict, idle-goes, finished-goes, advance}
 use Rattle.receiver.proofs.Counts.{finished-moves}
 use Rattle.receiver.proofs.Executed.{executed-law}
 
@@ -195,10 +197,31 @@ module _ (columns : Kind → List ℕ) where
       Reset : ClockAnswer → Type 0
       Reset a = a .outputs .verdict ≡ 3 → a .receiver ≡ freshState (r .core .ids)
 
+  -- ---- the bus and the two counters
+
+  bus-law : laws.BusLaw columns
+  unfolding finished
+  bus-law r trigger bit h =
+      rw (accepted r trigger bit h)
+      (by-taken (λ taken (a : ClockAnswer). BusNumbers r (a .outputs)) r trigger bit
+      (λ held. idle-bus r trigger (receiver-facts r (h .0) .of-core .of-sequence))
+      (λ kind number.
+      let b = idle-bus r trigger (receiver-facts r (h .0) .of-core .of-sequence) in
+      record { none = b .none; bunch-number = b .bunch-number; event-low = b .event-low; kept-low = b .kept-low; kept-high = b .kept-high }))
+
+  advance-law : laws.AdvanceLaw columns
+  unfolding decodedFrame
+  advance-law r trigger bit h =
+      let f = receiver-facts r (h .0) .of-core .of-counters in
+      rw (accepted r trigger bit h)
+      (by-taken (λ taken (a : ClockAnswer). CountersAdvance r trigger a) r trigger bit
+      (λ held. advance r trigger held _ f (h .1) (idle-goes (idleClock (r .core) trigger) (idle-verdict (r .core) trigger)))
+      (λ kind number. advance r trigger nothingHeld _ f (h .1) (finished-goes kind (judged (columns kind) kind number) (idleClock (r .core) trigger))))
+
   -- ---- the error counters
 
   -- verdict 0: neither counter moves
-  unmoved : (r : Receiver) (done : ClockAnswer) → done .outputs .verdict ≡ 0 → done .receiver .core .errors ≡ r .core .errors → CountersMove r done
+  unmoved : (r : Receiver) (done : ClockAnswer) → done .outputs .verdict ≡ 0 → done .receiver .core .errors ≡ r .core .errors → ErrorsMove r done
   unmoved r done z e =
       record {
         double-up = λ p. absurd (⊎-elim (λ q. omega arith) (⊎-elim (λ q. omega arith) (λ q. omega arith)) p);
@@ -209,11 +232,11 @@ module _ (columns : Kind → List ℕ) where
         single-stays = λ p q. ap (λ (x : Errors). x .single) e;
       }
 
-  counters-law : laws.CountersLaw columns
+  errors-law : laws.ErrorsLaw columns
   unfolding idleClock decodedFrame
-  counters-law r trigger bit =
-      by-refusal (CountersMove r) r trigger bit
-      (λ h. by-taken (λ taken a. CountersMove r a) r trigger bit
+  errors-law r trigger bit =
+      by-refusal (ErrorsMove r) r trigger bit
+      (λ h. by-taken (λ taken a. ErrorsMove r a) r trigger bit
       (λ held. unmoved r _ refl refl)
       (λ kind number.
       let m = finished-moves kind (judged (columns kind) kind number) (idleClock (r .core) trigger) in
@@ -248,7 +271,9 @@ clock-theorem columns good =
       waits-after = waits-after columns;
       outputs-stand = outputs-stand columns;
       reset-is-fresh = reset-is-fresh columns;
-      counters-law = counters-law columns;
+      bus-law = bus-law columns;
+      advance-law = advance-law columns;
+      errors-law = errors-law columns;
       executed-exactly = executed-exactly columns (λ kind. frame-theorem (columns kind) kind (good kind .0) (good kind .1));
     }
 

@@ -1,5 +1,7 @@
 pub mod TakeBit
 pub mod Keep
+mod BusShows
+mod Advance
 mod Counts
 mod Executed
 pub mod Laws

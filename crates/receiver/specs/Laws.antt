@@ -1,5 +1,5 @@
 -- What holds of every clock, over the columns of each kind of frame. Proved in proofs/Laws.antt.
-use Prim.Native.Nat.{ℕ, _+_, _<_, _≤_}
+use Prim.Native.Nat.{ℕ, _+_, _/_, _%_, _^_, _<_, _≤_}
 use mathlib.Core.Path.{_≡_}
 use mathlib.Core.Logic.{_≢_, _⊎_, _↔_}
 use mathlib.Core.Bool.{true, false}
@@ -96,6 +96,34 @@ ResetIsFresh columns =
     (r : Receiver) (trigger bit : ℕ) → clockAnswer columns r trigger bit .outputs .verdict ≡ 3
     → clockAnswer columns r trigger bit .receiver ≡ freshState (r .core .ids)
 
+-- ---- the bus and the two counters: "All numbers used are those before the clock."
+
+-- the number on the bus, by the strobe kind: bunch, event low and event high are those before the clock; a running sequence shows the kept
+-- event number
+pub record BusNumbers (r : Receiver) (shown : Outputs) : Type 0 where
+  pub none : shown .strobe ≡ 0 → shown .number ≡ 0
+  pub bunch-number : shown .strobe ≡ 1 → shown .number ≡ r .core .counters .bunch
+  pub event-low : shown .strobe ≡ 2 → r .core .sequence .left ≡ 0 → shown .number ≡ r .core .counters .event % 2 ^ 12
+  pub kept-low : shown .strobe ≡ 2 → 0 < r .core .sequence .left → shown .number ≡ r .core .sequence .event % 2 ^ 12
+  pub kept-high : shown .strobe ≡ 3 → shown .number ≡ r .core .sequence .event / 2 ^ 12
+
+abbrev pub BusLaw : (Kind → List ℕ) → Type 0
+BusLaw columns =
+    (r : Receiver) (trigger bit : ℕ) → Accepted r trigger bit → BusNumbers r (clockAnswer columns r trigger bit .outputs)
+
+-- where the counters go, but for RESET: one up, the event counter only with a trigger; "Its clears .. win" on a broadcast, whose word shows them
+pub record CountersAdvance (r : Receiver) (trigger : ℕ) (done : ClockAnswer) : Type 0 where
+  pub bunch-up : done .outputs .verdict ≢ 1 → done .outputs .verdict ≢ 3 → done .receiver .core .counters .bunch ≡ (r .core .counters .bunch + 1) % 4096
+  pub event-up : done .outputs .verdict ≢ 1 → done .outputs .verdict ≢ 3 → done .receiver .core .counters .event ≡ (r .core .counters .event + trigger) % 2 ^ 24
+  pub bunch-cleared : done .outputs .verdict ≡ 1 → done .outputs .word % 2 ≡ 1 → done .receiver .core .counters .bunch ≡ 0
+  pub bunch-left : done .outputs .verdict ≡ 1 → done .outputs .word % 2 ≡ 0 → done .receiver .core .counters .bunch ≡ (r .core .counters .bunch + 1) % 4096
+  pub event-cleared : done .outputs .verdict ≡ 1 → done .outputs .word / 2 % 2 ≡ 1 → done .receiver .core .counters .event ≡ 0
+  pub event-left : done .outputs .verdict ≡ 1 → done .outputs .word / 2 % 2 ≡ 0 → done .receiver .core .counters .event ≡ (r .core .counters .event + trigger) % 2 ^ 24
+
+abbrev pub AdvanceLaw : (Kind → List ℕ) → Type 0
+AdvanceLaw columns =
+    (r : Receiver) (trigger bit : ℕ) → Accepted r trigger bit → CountersAdvance r trigger (clockAnswer columns r trigger bit)
+
 -- ---- the error counters
 
 -- one higher, and at most the top
@@ -114,15 +142,15 @@ Corrected shown =
     × ((shown .verdict ≡ 1) ⊎ ((shown .verdict ≡ 2) ⊎ ((shown .verdict ≡ 4) ⊎ ((shown .verdict ≡ 5) ⊎ (shown .verdict ≡ 6)))))
 
 -- the double error counter is one higher exactly on verdicts 7, 8 and 9, the single one exactly on a corrected frame; RESET zeroes both
-pub record CountersMove (r : Receiver) (done : ClockAnswer) : Type 0 where
+pub record ErrorsMove (r : Receiver) (done : ClockAnswer) : Type 0 where
   pub double-up : Lost (done .outputs) → OneHigher 255 (r .core .errors .double) (done .receiver .core .errors .double)
   pub single-up : Corrected (done .outputs) → OneHigher 65535 (r .core .errors .single) (done .receiver .core .errors .single)
   pub reset : done .outputs .verdict ≡ 3 → (done .receiver .core .errors .double ≡ 0) × (done .receiver .core .errors .single ≡ 0)
   pub double-stays : (Lost (done .outputs) → ⊥) → done .outputs .verdict ≢ 3 → done .receiver .core .errors .double ≡ r .core .errors .double
   pub single-stays : (Corrected (done .outputs) → ⊥) → done .outputs .verdict ≢ 3 → done .receiver .core .errors .single ≡ r .core .errors .single
 
-abbrev pub CountersLaw : (Kind → List ℕ) → Type 0
-CountersLaw columns = (r : Receiver) (trigger bit : ℕ) → CountersMove r (clockAnswer columns r trigger bit)
+abbrev pub ErrorsLaw : (Kind → List ℕ) → Type 0
+ErrorsLaw columns = (r : Receiver) (trigger bit : ℕ) → ErrorsMove r (clockAnswer columns r trigger bit)
 
 -- ---- executed frames
 
@@ -162,7 +190,9 @@ pub record ClockLaws (columns : Kind → List ℕ) : Type 0 where
   pub waits-after : WaitsAfter columns
   pub outputs-stand : OutputsStand columns
   pub reset-is-fresh : ResetIsFresh columns
-  pub counters-law : CountersLaw columns
+  pub bus-law : BusLaw columns
+  pub advance-law : AdvanceLaw columns
+  pub errors-law : ErrorsLaw columns
   pub executed-exactly : ExecutedExactly columns
 
 -- good columns for each kind, one for each data bit
