@@ -1,0 +1,149 @@
+// Document 01's trigger example, and what triggers, clears and RESET do to a sequence on the bus.
+// Of each clock that shows something, it prints the number of the clock, then what it shows.
+use frame::encode_long;
+use frame::encode_short;
+use receiver::Outputs;
+use receiver::clock;
+use receiver_state::Receiver;
+use receiver_state::fresh;
+
+// The bits of a run stand in a number like those of a frame: its first bit has this place.
+const FIRST_OF_FIVE: u64 = 0x10;
+
+const FIRST_OF_SHORT: u64 = 0x8000;
+
+const FIRST_OF_LONG: u64 = 0x200_0000_0000;
+
+fn print_number(label: &[u8], number: u64) {
+    io::write_all(1, label);
+    io::print_decimal(1, number);
+}
+
+fn print_flag(label: &[u8], flag: u8) {
+    if flag == 1 {
+        io::write_all(1, label);
+    }
+}
+
+fn print_bus(strobe: u8, number: u16) {
+    if strobe == 1 {
+        print_number(b" bunch ", number as u64);
+    }
+    if strobe == 2 {
+        print_number(b" event low ", number as u64);
+    }
+    if strobe == 3 {
+        print_number(b" event high ", number as u64);
+    }
+}
+
+fn print_clock(number: u64, outputs: Outputs) {
+    io::print_decimal(1, number);
+    print_flag(b" trigger", outputs.trigger);
+    print_flag(b" missed", outputs.missed);
+    print_bus(outputs.strobe, outputs.number);
+    if outputs.verdict > 0 {
+        print_number(b" verdict ", outputs.verdict as u64);
+        print_number(b" corrected ", outputs.corrected as u64);
+        print_number(b" word ", outputs.word as u64);
+    }
+    io::write_all(1, b"\n");
+}
+
+fn shows_nothing(outputs: Outputs) -> bool {
+    if outputs.trigger > 0 {
+        return false;
+    }
+    outputs.strobe == 0 && outputs.verdict == 0
+}
+
+fn print_state(receiver: Receiver) {
+    print_number(b"  bunch counter ", receiver.core.counters.bunch as u64);
+    print_number(b", event counter ", receiver.core.counters.event as u64);
+    print_number(b", words left ", receiver.core.sequence.left as u64);
+    io::write_all(1, b"\n");
+}
+
+// As many clocks as `first` has bits, with the bits of two numbers as triggers and data.
+fn run(start: Receiver, triggers: u64, data: u64, first: u64) -> Receiver {
+    let mut receiver = start;
+    let mut place = first;
+    let mut number = 1u64;
+    while place > 0 {
+        let trigger = (triggers / place % 2) as u8;
+        let bit = (data / place % 2) as u8;
+        let answer = clock(receiver, trigger, bit);
+        if !shows_nothing(answer.outputs) {
+            print_clock(number, answer.outputs);
+        }
+        let next = answer.receiver;
+        receiver = next;
+        number = std::num::wrapping_add_u64(number, 1);
+        place = place / 2;
+    }
+    receiver
+}
+
+// A fresh receiver of ID 5 whose control register was written by a frame; the mode is its bits 1..0.
+fn in_mode(control: u8) -> Receiver {
+    let write = encode_long(5, 0, 3, control);
+    let start = fresh(5, 5);
+    run(start.receiver, 0, write.number, FIRST_OF_LONG)
+}
+
+// Idle bits on channel B.
+fn triggered(start: Receiver, triggers: u64) {
+    print_state(run(start, triggers, FIRST_OF_FIVE * 2 - 1, FIRST_OF_FIVE));
+}
+
+fn modes() {
+    io::write_all(1, b"\nmode 0, trigger on clock 1\n");
+    triggered(in_mode(0), 0x10);
+    io::write_all(1, b"\nmode 1, trigger on clock 1\n");
+    triggered(in_mode(1), 0x10);
+    io::write_all(1, b"\nmode 2, trigger on clock 1\n");
+    triggered(in_mode(2), 0x10);
+    io::write_all(1, b"\nmode 3, trigger on clock 1\n");
+    triggered(in_mode(3), 0x10);
+    io::write_all(
+        1,
+        b"\nmode 3, triggers on clocks 1, 3 (the last word) and 4\n",
+    );
+    triggered(in_mode(3), 0x16);
+}
+
+// A frame's last clocks, the stop bit's included, under triggers.
+fn frames() {
+    let both = encode_short(3);
+    io::write_all(
+        1,
+        b"\nmode 3, a broadcast that clears both counters, triggers on its first and last clock\n",
+    );
+    let cleared = run(in_mode(3), 0x8001, both.number, FIRST_OF_SHORT);
+    print_state(cleared);
+    triggered(cleared, 0);
+    let reset = encode_long(5, 0, 6, 0);
+    io::write_all(
+        1,
+        b"\nmode 3, RESET, trigger on the clock before its last\n",
+    );
+    let fresh_again = run(in_mode(3), 0x0002, reset.number, FIRST_OF_LONG);
+    print_state(fresh_again);
+    triggered(fresh_again, 0);
+    let to_none = encode_long(5, 0, 3, 0);
+    io::write_all(
+        1,
+        b"\nmode 3, control write of 0, trigger on the clock before its last; later one more\n",
+    );
+    let written = run(in_mode(3), 0x0002, to_none.number, FIRST_OF_LONG);
+    print_state(written);
+    triggered(written, 0x02);
+}
+
+fn main() {
+    let start = fresh(5, 5);
+    io::write_all(1, b"document 01: triggers on clocks 1, 2 and 4\n");
+    triggered(start.receiver, 0x1A);
+    modes();
+    frames();
+}
