@@ -4,7 +4,7 @@ use mathlib.Core.Logic.{_≢_, _⊎_, inl, inr, ⊎-elim}
 use mathlib.Core.Bool.{Bool, true, false, cond}
 use Prim.Native.Nat.{ℕ, _<_}
 use native.Mathlib.Omega.{arith}
-use borrow.Author.Tests.{eq-eqb, lt-ltb, le-ltb}
+use borrow.Author.Tests.{eq-eqb, ne-eqb, lt-ltb, le-ltb}
 use lib.Dec.{eqb, ltb}
 use Rattle.laws.proofs.Rules.{picked}
 use Rattle.frame.specs.declared.Kind.{Kind}
@@ -33,6 +33,9 @@ pub record Moves (before : Errors) (done : Clocked) : Type 0 where
   pub reset : done .outputs .verdict ≡ 3 → (done .core .errors .double ≡ 0) × (done .core .errors .single ≡ 0)
   pub double-stays : (Lost (done .outputs) → ⊥) → done .outputs .verdict ≢ 3 → done .core .errors .double ≡ before .double
   pub single-stays : (Corrected (done .outputs) → ⊥) → done .outputs .verdict ≢ 3 → done .core .errors .single ≡ before .single
+  pub status-cleared : done .outputs .verdict ≡ 7 → done .core .errors .status5 ≡ 0
+  pub status-set : done .outputs .verdict ≢ 0 → done .outputs .verdict ≢ 7 → done .core .errors .status5 ≡ 1
+  pub status-stays : done .outputs .verdict ≡ 0 → done .core .errors .status5 ≡ before .status5
 
 -- ---- the three kinds of rows
 
@@ -47,6 +50,9 @@ lost-moves v word idle l =
       reset = λ p. absurd (⊎-elim (λ q. omega arith) (⊎-elim (λ q. omega arith) (λ q. omega arith)) l);
       double-stays = λ p q. absurd (p l);
       single-stays = λ p q. refl;
+      status-cleared = λ p. rw (eq-eqb _ _ p) refl;
+      status-set = λ p q. rw (ne-eqb _ _ q) refl;
+      status-stays = λ p. absurd (⊎-elim (λ q. omega arith) (⊎-elim (λ q. omega arith) (λ q. omega arith)) l);
     }
 
 -- RESET
@@ -59,18 +65,21 @@ reset-moves frame own idle =
       reset = λ p. (refl, refl);
       double-stays = λ p q. absurd (q refl);
       single-stays = λ p q. absurd (q refl);
+      status-cleared = λ p. absurd (omega arith);
+      status-set = λ p q. refl;
+      status-stays = λ p. absurd (omega arith);
     }
 
 -- 1, 2, 4, 5 and 6, whose effects leave the errors as they were counted
 abbrev Other : ℕ → Type 0
 Other v = (v ≡ 1) ⊎ ((v ≡ 2) ⊎ ((v ≡ 4) ⊎ ((v ≡ 5) ⊎ (v ≡ 6))))
 
-other-low : (v : ℕ) → Other v → (v ≢ 3) × (v < 7)
+other-low : (v : ℕ) → Other v → (v ≢ 3) × (v < 7) × (0 < v)
 other-low v =
-    ⊎-elim (λ q. (λ p. omega arith, omega arith))
-    (⊎-elim (λ q. (λ p. omega arith, omega arith))
-    (⊎-elim (λ q. (λ p. omega arith, omega arith))
-    (⊎-elim (λ q. (λ p. omega arith, omega arith)) (λ q. (λ p. omega arith, omega arith)))))
+    ⊎-elim (λ q. (λ p. omega arith, omega arith, omega arith))
+    (⊎-elim (λ q. (λ p. omega arith, omega arith, omega arith))
+    (⊎-elim (λ q. (λ p. omega arith, omega arith, omega arith))
+    (⊎-elim (λ q. (λ p. omega arith, omega arith, omega arith)) (λ q. (λ p. omega arith, omega arith, omega arith)))))
 
 other-moves : (v word : ℕ) (kind : Kind) (flag : Bool) (core : Core) (idle : Clocked) → Other v
     → core .errors ≡ countErrors (goodAnswer kind (cond flag 1 0) word) (idle .core) .errors
@@ -84,6 +93,9 @@ other-moves v word kind flag core idle o e =
       reset = λ p. absurd (low .0 p);
       double-stays = λ p q. ap (λ (x : Errors). x .double) e;
       single-stays = λ p q. ap (λ (x : Errors). x .single) e ∙ uncounted flag (λ c. p (c, o));
+      status-cleared = λ p. absurd (omega (arith, low .1));
+      status-set = λ p q. ap (λ (x : Errors). x .status5) e;
+      status-stays = λ p. absurd (omega (arith, low .2));
     }
   where
     uncounted : (flag : Bool) → (_≡_ {A = ℕ} (cond flag 1 0) 1 → ⊥)

@@ -230,6 +230,9 @@ module _ (columns : Kind → List ℕ) where
         reset = λ p. absurd (omega arith);
         double-stays = λ p q. ap (λ (x : Errors). x .double) e;
         single-stays = λ p q. ap (λ (x : Errors). x .single) e;
+        status-cleared = λ p. absurd (omega arith);
+        status-set = λ p q. absurd (p z);
+        status-stays = λ p. ap (λ (x : Errors). x .status5) e;
       }
 
   errors-law : laws.ErrorsLaw columns
@@ -246,6 +249,9 @@ module _ (columns : Kind → List ℕ) where
         reset = m .reset;
         double-stays = m .double-stays;
         single-stays = m .single-stays;
+        status-cleared = m .status-cleared;
+        status-set = m .status-set;
+        status-stays = m .status-stays;
       }))
       (λ n z. unmoved r _ refl refl)
 

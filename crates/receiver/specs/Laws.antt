@@ -148,6 +148,10 @@ pub record ErrorsMove (r : Receiver) (done : ClockAnswer) : Type 0 where
   pub reset : done .outputs .verdict ≡ 3 → (done .receiver .core .errors .double ≡ 0) × (done .receiver .core .errors .single ≡ 0)
   pub double-stays : (Lost (done .outputs) → ⊥) → done .outputs .verdict ≢ 3 → done .receiver .core .errors .double ≡ r .core .errors .double
   pub single-stays : (Corrected (done .outputs) → ⊥) → done .outputs .verdict ≢ 3 → done .receiver .core .errors .single ≡ r .core .errors .single
+  -- status "Bit 5 is cleared by verdict 7 and set by any other finished frame."
+  pub status-cleared : done .outputs .verdict ≡ 7 → done .receiver .core .errors .status5 ≡ 0
+  pub status-set : done .outputs .verdict ≢ 0 → done .outputs .verdict ≢ 7 → done .receiver .core .errors .status5 ≡ 1
+  pub status-stays : done .outputs .verdict ≡ 0 → done .receiver .core .errors .status5 ≡ r .core .errors .status5
 
 abbrev pub ErrorsLaw : (Kind → List ℕ) → Type 0
 ErrorsLaw columns = (r : Receiver) (trigger bit : ℕ) → ErrorsMove r (clockAnswer columns r trigger bit)
