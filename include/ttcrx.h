@@ -90,8 +90,8 @@ typedef struct ttcrx_settings {
     uint8_t fine2;
     uint8_t coarse;
     uint8_t control;
-    uint8_t config2;
-    uint8_t config3;
+    uint8_t config2; /* bits 6 to 0 are those of 0x85 */
+    uint8_t config3; /* bits 6 to 0 are those of 0xA7 */
 } ttcrx_settings;
 
 /* The error counters, and bit 5 of the status register. */
@@ -123,8 +123,9 @@ typedef struct ttcrx_core {
 
 /* The bits of an unfinished frame. */
 typedef struct ttcrx_held {
-    uint8_t count; /* how many; 0 while the receiver waits for a start bit */
-    uint64_t bits; /* as a number, the first received most significant; 0 while it waits */
+    uint8_t count; /* how many, 0 to 41; 0 while the receiver waits for a start bit */
+    uint64_t bits; /* as a number, the first received most significant, which is 0; from 16 bits on
+                      the second is 1; 0 while the receiver waits */
 } ttcrx_held;
 
 typedef struct ttcrx_receiver {
@@ -145,8 +146,8 @@ typedef struct ttcrx_outputs {
     uint8_t strobe;    /* the bus: 0 none, 1 bunch, 2 event low, 3 event high */
     uint16_t number;   /* the number on the bus; 0 with strobe 0 */
     uint8_t verdict;   /* of the frame that this clock finished; 0: none finished */
-    uint8_t corrected; /* 1: one wrong bit of it was corrected */
-    uint32_t word;     /* its word, as document 01 shows it for the verdict */
+    uint8_t corrected; /* 1: one wrong bit of it was corrected; 0 with verdicts 0, 7, 8 and 9 */
+    uint32_t word;     /* its corrected word; 0 with verdicts 0, 7 and 8 */
 } ttcrx_outputs;
 
 /* The answer of a clock. */

@@ -25,7 +25,7 @@ use Rattle.receiver.specs.declared.Row.{Row}
 use Rattle.receiver.specs.IdleClock.{countClock, idleClock}
 use Rattle.receiver.specs.Fate.{row, doubleUp, cleared, foreign, fate, countErrors, shown, finished}
 use Rattle.receiver.specs.Clock.{clockedAnswer}
-use Rattle.receiver.specs.Laws.{CountersAdvance}
+use Rattle.receiver.specs.StepLaws.{CountersAdvance}
 
 -- the counters against those of the idle clock
 pub record Goes (idle : Counters) (done : Clocked) : Type 0 where
@@ -64,19 +64,19 @@ reset-goes frame core idle = record { stay = λ p q. absurd (q refl); broadcast 
 
 pub finished-goes : (kind : Kind) (judged : Judged) (idle : Clocked) → Goes (idle .core .counters) (finished kind (answerTo kind judged) idle)
 unfolding finished fate countErrors doubleUp
-finished-goes kind StopZero idle = kept-goes 7 (bareAnswer 0 7 0) _ idle (λ p. omega arith) refl
-finished-goes kind Uncorrectable idle = kept-goes 8 (bareAnswer 0 8 0) _ idle (λ p. omega arith) refl
-finished-goes kind (FixedZero word) idle = kept-goes 9 (bareAnswer 0 9 word) _ idle (λ p. omega arith) refl
+finished-goes kind StopZero idle = kept-goes _ (bareAnswer 0 7 0) _ idle (λ p. omega arith) refl
+finished-goes kind Uncorrectable idle = kept-goes _ (bareAnswer 0 8 0) _ idle (λ p. omega arith) refl
+finished-goes kind (FixedZero word) idle = kept-goes _ (bareAnswer 0 9 word) _ idle (λ p. omega arith) refl
 finished-goes Short (Good word flag wrong) idle =
     record { stay = λ p q. absurd (p refl); broadcast = λ p. cleared-low word (idle .core .counters) }
 finished-goes Long (Good word flag wrong) idle =
     let frame = goodAnswer Long (cond flag 1 0) word in
     let core = countErrors frame (idle .core) in
     let After : Row → Type 0 = λ done. Goes (idle .core .counters) (shown frame done (idle .outputs)) in
-    picked After (foreign (frame .fields .address) (core .ids .id)) (kept-goes 5 frame core idle (λ p. omega arith) refl)
-    (picked After (eqb (frame .fields .e) 1) (kept-goes 4 frame core idle (λ p. omega arith) refl)
-    (picked After (ltb (frame .fields .sub) 4) (kept-goes 2 frame _ idle (λ p. omega arith) refl)
-    (picked After (eqb (frame .fields .sub) 6) (reset-goes frame _ idle) (kept-goes 6 frame core idle (λ p. omega arith) refl))))
+    picked After (foreign (frame .fields .address) (core .ids .id)) (kept-goes _ frame core idle (λ p. omega arith) refl)
+    (picked After (eqb (frame .fields .e) 1) (kept-goes _ frame core idle (λ p. omega arith) refl)
+    (picked After (ltb (frame .fields .sub) 4) (kept-goes _ frame _ idle (λ p. omega arith) refl)
+    (picked After (eqb (frame .fields .sub) 6) (reset-goes frame _ idle) (kept-goes _ frame core idle (λ p. omega arith) refl))))
 
 -- ---- in numbers
 
@@ -87,20 +87,26 @@ counted now zero f t = ap (counters ((now .bunch + 1) % 4096)) (let b : now .eve
 counted now (suc zero) f t = refl
 counted now (suc (suc n)) f t = absurd (omega arith)
 
-module _ (r : Receiver) (trigger : ℕ) where
-  idle-counters : CountersFacts (r .core .counters) → trigger < 2
-      → idleClock (r .core) trigger .core .counters ≡ counters ((r .core .counters .bunch + 1) % 4096) ((r .core .counters .event + trigger) % 2 ^ 24)
-  unfolding idleClock
-  idle-counters f t = counted (r .core .counters) trigger f t
+idle-counters : (core : Core) (trigger : ℕ) → CountersFacts (core .counters) → trigger < 2
+    → idleClock core trigger .core .counters ≡ counters ((core .counters .bunch + 1) % 4096) ((core .counters .event + trigger) % 2 ^ 24)
+unfolding idleClock
+idle-counters core trigger f t = counted (core .counters) trigger f t
 
-  pub advance : (held : Held) (done : Clocked) → CountersFacts (r .core .counters) → trigger < 2
-      → Goes (idleClock (r .core) trigger .core .counters) done → CountersAdvance r trigger (clockedAnswer held done)
-  unfolding cleared
-  advance held done f t g = record {
-    bunch-up = λ p q. ap (λ (k : Counters). k .bunch) (g .stay p q ∙ idle-counters f t);
-    event-up = λ p q. ap (λ (k : Counters). k .event) (g .stay p q ∙ idle-counters f t);
-    bunch-cleared = λ p b. ap (λ (k : Counters). k .bunch) (g .broadcast p) ∙ rw (eq-eqb _ _ b) refl;
-    bunch-left = λ p b. ap (λ (k : Counters). k .bunch) (g .broadcast p) ∙ rw (b) (ap (λ (k : Counters). k .bunch) (idle-counters f t));
-    event-cleared = λ p b. ap (λ (k : Counters). k .event) (g .broadcast p) ∙ rw (eq-eqb _ _ b) refl;
-    event-left = λ p b. ap (λ (k : Counters). k .event) (g .broadcast p) ∙ rw (b) (ap (λ (k : Counters). k .event) (idle-counters f t));
-  }
+pub advance : (core : Core) (trigger : ℕ) (done : Clocked) → CountersFacts (core .counters) → trigger < 2
+    → Goes (idleClock core trigger .core .counters) done → CountersAdvance (core .counters) trigger (done .outputs) (done .core .counters)
+unfolding cleared
+advance core trigger done f t g =
+    record {
+      bunch-up = λ p q. ap bunch (g .stay p q ∙ idle-counters core trigger f t);
+      event-up = λ p q. ap event (g .stay p q ∙ idle-counters core trigger f t);
+      bunch-cleared = λ p b. ap bunch (g .broadcast p) ∙ rw b refl;
+      bunch-not-cleared = λ p b. ap bunch (g .broadcast p) ∙ rw b (ap bunch (idle-counters core trigger f t));
+      event-cleared = λ p b. ap event (g .broadcast p) ∙ rw b refl;
+      event-not-cleared = λ p b. ap event (g .broadcast p) ∙ rw b (ap event (idle-counters core trigger f t));
+    }
+  where
+    bunch : Counters → ℕ
+    bunch k = k .bunch
+
+    event : Counters → ℕ
+    event k = k .event

@@ -20,22 +20,14 @@ use Rattle.receiver_state.specs.State.{freshCore}
 use Rattle.receiver.specs.declared.Clocked.{Clocked}
 use Rattle.receiver.specs.declared.Row.{Row}
 use Rattle.receiver.specs.Fate.{row, upTo, doubleUp, foreign, fate, countErrors, shown, finished}
-use Rattle.receiver.specs.Laws.{OneHigher, Lost, Corrected}
+use Rattle.receiver.specs.FrameLaws.{OneHigher, ErrorsMove}
 
 one-higher : (top n : ℕ) → OneHigher top n (upTo top n)
 unfolding upTo
 one-higher top n = record { higher = λ h. rw (lt-ltb _ _ h) refl; full = λ h. rw (le-ltb _ _ h) refl }
 
--- what a clock does to the counters
-pub record Moves (before : Errors) (done : Clocked) : Type 0 where
-  pub double-up : Lost (done .outputs) → OneHigher 255 (before .double) (done .core .errors .double)
-  pub single-up : Corrected (done .outputs) → OneHigher 65535 (before .single) (done .core .errors .single)
-  pub reset : done .outputs .verdict ≡ 3 → (done .core .errors .double ≡ 0) × (done .core .errors .single ≡ 0)
-  pub double-stays : (Lost (done .outputs) → ⊥) → done .outputs .verdict ≢ 3 → done .core .errors .double ≡ before .double
-  pub single-stays : (Corrected (done .outputs) → ⊥) → done .outputs .verdict ≢ 3 → done .core .errors .single ≡ before .single
-  pub status-cleared : done .outputs .verdict ≡ 7 → done .core .errors .status5 ≡ 0
-  pub status-set : done .outputs .verdict ≢ 0 → done .outputs .verdict ≢ 7 → done .core .errors .status5 ≡ 1
-  pub status-stays : done .outputs .verdict ≡ 0 → done .core .errors .status5 ≡ before .status5
+abbrev Moves : Errors → Clocked → Type 0
+Moves before done = ErrorsMove before (done .outputs) (done .core .errors)
 
 -- ---- the three kinds of rows
 
@@ -110,13 +102,13 @@ unfolding finished fate
 finished-moves kind StopZero idle = lost-moves 7 0 idle (inl refl)
 finished-moves kind Uncorrectable idle = lost-moves 8 0 idle (inr (inl refl))
 finished-moves kind (FixedZero word) idle = lost-moves 9 word idle (inr (inr refl))
-finished-moves Short (Good word flag wrong) idle = other-moves 1 word Short flag _ idle (inl refl) refl
+finished-moves Short (Good word flag wrong) idle = other-moves 1 word Short flag (countErrors (goodAnswer Short (cond flag 1 0) word) (idle .core)) idle (inl refl) refl
 finished-moves Long (Good word flag wrong) idle =
     let frame = goodAnswer Long (cond flag 1 0) word in
     let core = countErrors frame (idle .core) in
     let After : Row → Type 0 = λ done. Moves (idle .core .errors) (shown frame done (idle .outputs)) in
     picked After (foreign (frame .fields .address) (core .ids .id)) (other-moves 5 word Long flag core idle (inr (inr (inr (inl refl)))) refl)
     (picked After (eqb (frame .fields .e) 1) (other-moves 4 word Long flag core idle (inr (inr (inl refl))) refl)
-    (picked After (ltb (frame .fields .sub) 4) (other-moves 2 word Long flag _ idle (inr (inl refl)) refl)
+    (picked After (ltb (frame .fields .sub) 4) (other-moves 2 word Long flag core idle (inr (inl refl)) refl)
     (picked After (eqb (frame .fields .sub) 6) (reset-moves frame (core .ids) idle)
     (other-moves 6 word Long flag core idle (inr (inr (inr (inr refl)))) refl))))

@@ -22,30 +22,11 @@ use Rattle.frame.specs.Decode.{judged, goodAnswer, answerTo, decodeFrame}
 use Rattle.frame.specs.Frames.{InRange, flipProtected, fieldsAnswer, FrameFacts}
 use Rattle.receiver_state.specs.declared.Core.{Core}
 use Rattle.receiver.specs.declared.Clocked.{Clocked}
-use Rattle.receiver.specs.Fate.{row, foreign, fate, executed, decodedFrame, countErrors, finished}
-use Rattle.receiver.specs.Laws.{ExecutedRow, ExecutedFrame}
+use Rattle.receiver.specs.Fate.{row, foreign, fate, executed, finishedAnswer, countErrors, finished}
+use Rattle.receiver.specs.FrameLaws.{ExecutedRow, ExecutedFrame}
+use Rattle.receiver.proofs.Verdicts.{foreign-no, ours-not-foreign, finished-answer}
 
 -- ---- the rows 1 to 4
-
-foreign-no : (address id : ℕ) → foreign address id ≡ false → (address ≡ 0) ⊎ (address ≡ id)
-unfolding foreign
-foreign-no address id e = by-zero (eqb address 0) refl e
-  where
-    by-zero : (t : Bool) → eqb address 0 ≡ t → (not t && not (eqb address id)) ≡ false → (address ≡ 0) ⊎ (address ≡ id)
-    by-zero true z f = inl (eqb-true address 0 z)
-    by-zero false z f = inr (by-id (eqb address id) refl f)
-      where
-        by-id : (u : Bool) → eqb address id ≡ u → not u ≡ false → address ≡ id
-        by-id true d g = eqb-true address id d
-        by-id false d g = absurd (true≢false g)
-
-foreign-yes : (address id : ℕ) → (address ≡ 0) ⊎ (address ≡ id) → foreign address id ≡ false
-unfolding foreign
-foreign-yes address id = ⊎-elim (λ z. rw (eq-eqb address 0 z) refl) (λ d. rw (eq-eqb address id d) (last (not (eqb address 0))))
-  where
-    last : (t : Bool) → (t && false) ≡ false
-    last true = refl
-    last false = refl
 
 -- an answer of the decoder that tells fields
 abbrev told : ℕ → ℕ → Fields → Answer
@@ -61,7 +42,7 @@ row-law Long flag word fields core =
     go : (two three : Core) (t u v w : Bool) → foreign (fields .address) (core .ids .id) ≡ t → eqb (fields .e) 1 ≡ u → ltb (fields .sub) 4 ≡ v → eqb (fields .sub) 6 ≡ w
         → (executed (cond t (row 5 core) (cond u (row 4 core) (cond v (row 2 two) (cond w (row 3 three) (row 6 core)))) .verdict) ≡ true)
         ↔ ExecutedRow Long fields (core .ids .id)
-    go two three true u v w a b c d = (λ e. absurd (false≢true e), λ p. absurd (true≢false (sym a ∙ foreign-yes _ _ (p .0))))
+    go two three true u v w a b c d = (λ e. absurd (false≢true e), λ p. absurd (true≢false (sym a ∙ ours-not-foreign _ _ (p .0))))
     go two three false true v w a b c d = (λ e. (foreign-no _ _ a, inl (eqb-true _ _ b)), λ p. refl)
     go two three false false true w a b c d = (λ e. (foreign-no _ _ a, inr (inl (ltb-true _ _ c))), λ p. refl)
     go two three false false false true a b c d = (λ e. (foreign-no _ _ a, inr (inr (eqb-true _ _ d))), λ p. refl)
@@ -74,11 +55,6 @@ row-law Long flag word fields core =
     )
 
 -- ---- decoded and encoded
-
-decoded-frame : (columns : Kind → List ℕ) (kind : Kind) (number : ℕ) → isFrame kind number ≡ true
-    → decodeFrame (columns kind) kind number ≡ decodedFrame columns kind number
-unfolding decodeFrame decodedFrame
-decoded-frame columns kind number e = rw e refl
 
 -- an encoded frame with no bit or one protected bit flipped decodes to its fields
 decodes : (columns : List ℕ) (kind : Kind) (fields : Fields) (wrong : WrongBit) → FrameFacts columns kind → InRange kind fields
@@ -96,13 +72,13 @@ module _ (columns : Kind → List ℕ) (facts : (kind : Kind) → FrameFacts (co
   -- what is executed was so encoded
   only-if : (kind : Kind) (number : ℕ) → isFrame kind number ≡ true → (found : Judged) → judged (columns kind) kind number ≡ found
       → ExecutedNow kind (answerTo kind found) → ExecutedFrame columns kind number (idle .core .ids .id)
-  unfolding finished countErrors fate executed decodedFrame
+  unfolding finished countErrors fate executed finishedAnswer
   only-if kind number h StopZero e x = absurd (false≢true x)
   only-if kind number h Uncorrectable e x = absurd (false≢true x)
   only-if kind number h (FixedZero word) e x = absurd (false≢true x)
   only-if kind number h (Good word raised wrong) e x =
       let d : decodeFrame (columns kind) kind number ≡ goodAnswer kind (cond raised 1 0) word =
-      decoded-frame columns kind number h ∙ ap (answerTo kind) e in
+      finished-answer columns kind number h ∙ ap (answerTo kind) e in
       let p = facts kind .decoded-only-if number (cond raised 1 0) word (fieldsOf kind word) d in
       record {
         stop = p .1 .stop;
@@ -116,15 +92,15 @@ module _ (columns : Kind → List ℕ) (facts : (kind : Kind) → FrameFacts (co
 
   -- and what was so encoded is executed
   when : (kind : Kind) (number : ℕ) → isFrame kind number ≡ true → ExecutedFrame columns kind number (idle .core .ids .id)
-      → ExecutedNow kind (decodedFrame columns kind number)
+      → ExecutedNow kind (finishedAnswer columns kind number)
   unfolding finished countErrors
   when kind number h x =
       let d = decodes (columns kind) kind (x .fields) (x .wrong) (facts kind) (x .in-range) (x .none-or-protected) in
-      let e : decodedFrame columns kind number ≡ fieldsAnswer kind (d .0) (x .fields) =
-      sym (decoded-frame columns kind number h) ∙ ap (decodeFrame (columns kind) kind) (x .number-is) ∙ d .1 in
+      let e : finishedAnswer columns kind number ≡ fieldsAnswer kind (d .0) (x .fields) =
+      sym (finished-answer columns kind number h) ∙ ap (decodeFrame (columns kind) kind) (x .number-is) ∙ d .1 in
       rw e (row-law kind (d .0) _ (x .fields) (countErrors (fieldsAnswer kind (d .0) (x .fields)) (idle .core)) .1 (x .row-is))
 
   pub executed-law : (kind : Kind) (number : ℕ) → isFrame kind number ≡ true
-      → ExecutedNow kind (decodedFrame columns kind number) ↔ ExecutedFrame columns kind number (idle .core .ids .id)
-  unfolding decodedFrame
+      → ExecutedNow kind (finishedAnswer columns kind number) ↔ ExecutedFrame columns kind number (idle .core .ids .id)
+  unfolding finishedAnswer
   executed-law kind number h = (only-if kind number h (judged (columns kind) kind number) refl, when kind number h)

@@ -22,7 +22,7 @@ use Rattle.receiver.specs.declared.Taken.{Taken}
 use Rattle.receiver.specs.declared.Taken.the-variants.{Unfinished, Finished}
 use Rattle.receiver.specs.TakeBit.{takeBit, heldAfter}
 use Rattle.receiver.specs.IdleClock.{continued, started, busStep, countClock, idleClock}
-use Rattle.receiver.specs.Fate.{doubleUp, cleared, stored, isShort, foreign, fate, countErrors, decodedFrame, finished, applyFrame}
+use Rattle.receiver.specs.Fate.{doubleUp, cleared, stored, isShort, foreign, fate, countErrors, finishedAnswer, finished, applyFrame}
 use Rattle.receiver.specs.Clock.{stepAnswer}
 use Rattle.receiver.proofs.TakeBit.{TakenFacts, taken-facts}
 
@@ -52,8 +52,8 @@ count-facts : (now : Counters) (trigger : ℕ) → CountersFacts now → Counter
 unfolding countClock
 count-facts now trigger f =
     record {
-      bunch-below = mod-lt (now .bunch + 1) (lit< tt);
-      event-below = picked (λ (n : ℕ). n < 2 ^ 24) (eqb trigger 1) (mod-lt (now .event + 1) (lit< tt)) (f .event-below);
+      bunch-below = mod-lt _ (lit< tt);
+      event-below = picked (λ (n : ℕ). n < 2 ^ 24) (eqb trigger 1) (mod-lt _ (lit< tt)) (f .event-below);
     }
 
 pub idle-facts : (core : Core) (trigger : ℕ) → CoreFacts core → CoreFacts (idleClock core trigger .core)
@@ -134,7 +134,7 @@ unfolding finished
 after-facts columns (Unfinished held) idle h f = record { of-core = f; of-held = h }
 after-facts columns (Finished kind number) idle h f =
     record {
-      of-core = fate-facts kind (decodedFrame columns kind number) _ (counted-facts (decodedFrame columns kind number) (idle .core) f);
+      of-core = fate-facts kind (finishedAnswer columns kind number) _ (counted-facts (finishedAnswer columns kind number) (idle .core) f);
       of-held = none-facts;
     }
 

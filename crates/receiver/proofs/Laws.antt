@@ -15,6 +15,7 @@ use Rattle.frame.specs.declared.Answer.{Answer}
 use Rattle.frame.specs.Decode.{judged}
 use Rattle.frame.specs.Frames.{FrameFacts}
 use Rattle.frame.proofs.Frames.{frame-theorem}
+use Rattle.receiver_state.specs.declared.Settings.{Settings}
 use Rattle.receiver_state.specs.declared.Errors.{Errors}
 use Rattle.receiver_state.specs.declared.Core.{Core}
 use Rattle.receiver_state.specs.declared.Held.{Held}
@@ -22,21 +23,26 @@ use Rattle.receiver_state.specs.declared.Receiver.{Receiver}
 use Rattle.receiver_state.specs.State.{holding, nothingHeld, receiver, freshCore, freshState}
 use Rattle.receiver_state.specs.WellFormed.{wellFormed, HeldFacts}
 use Rattle.receiver_state.proofs.WellFormed.{receiver-facts, receiver-ok}
+use Rattle.receiver.specs.declared.Outputs.{Outputs}
 use Rattle.receiver.specs.declared.ClockAnswer.{ClockAnswer}
 use Rattle.receiver.specs.declared.Row.{Row}
 use Rattle.receiver.specs.declared.Taken.{Taken}
 use Rattle.receiver.specs.declared.Taken.the-variants.{Unfinished, Finished}
 use Rattle.receiver.specs.TakeBit.{takeBit, heldAfter, Waits}
 use Rattle.receiver.specs.IdleClock.{idleClock}
-use Rattle.receiver.specs.Fate.{columnsOf, isShort, foreign, fate, decodedFrame, countErrors, finished, applyFrame}
+use Rattle.receiver.specs.Fate.{columnsOf, isShort, foreign, fate, finishedAnswer, countErrors, shows, finished, applyFrame}
 use Rattle.receiver.specs.Clock.{clockedAnswer, stepAnswer, refusedClock, clockAnswer}
 use Rattle.receiver.specs.Laws as laws
-use Rattle.receiver.specs.Laws.{BusNumbers, CountersAdvance, Accepted, Stands, ErrorsMove, GoodTables, ClockTheorem, ReceiverLaws}
+use Rattle.receiver.specs.StepLaws.{Stands, Shows, BusShows, SequenceLeft, CountersAdvance}
+use Rattle.receiver.specs.FrameLaws.{ErrorsMove, SettingsMove}
+use Rattle.receiver.specs.Laws.{Accepted, GoodTables, ClockTheorem, ReceiverLaws}
 use Rattle.receiver.proofs.TakeBit.{TakenFacts, taken-facts}
 use Rattle.receiver.proofs.Keep.{step-facts}
-use Rattle.receiver.proofs.BusShows.{idle-bus}
+use Rattle.receiver.proofs.BusSequence.{idle-shows, idle-left, fate-sequence}
 use Rattle.receiver.proofs.Advance.{idle-verdict, idle-goes, finished-goes, advance}
 use Rattle.receiver.proofs.Counts.{finished-moves}
+use Rattle.receiver.proofs.Stored.{finished-settings, fate-ids}
+use Rattle.receiver.proofs.Verdicts.{finished-answer, shows-frame}
 use Rattle.receiver.proofs.Executed.{executed-law}
 
 -- ---- waiting
@@ -90,6 +96,52 @@ fate-reset kind frame core =
     Reset : Row → Type 0
     Reset done = done .verdict ≡ 3 → done .core ≡ freshCore (core .ids)
 
+-- what holds of a bus holds of outputs that show the same
+same-bus : (core : Core) (trigger : ℕ) (shown idle : Outputs) → shows (shown .verdict) (shown .corrected) (shown .word) idle ≡ shown
+    → BusShows core trigger idle → BusShows core trigger shown
+same-bus core trigger shown idle e b =
+    rw (← e)
+    (record {
+      trigger-shown = b .trigger-shown;
+      missed-if-running = b .missed-if-running;
+      not-missed = b .not-missed;
+      event-low-next = λ p. same (b .event-low-next p);
+      event-high-next = λ p. same (b .event-high-next p);
+      mode-0 = λ p. same (b .mode-0 p);
+      mode-1 = λ p. same (b .mode-1 p);
+      mode-2 = λ p. same (b .mode-2 p);
+      mode-3 = λ p. same (b .mode-3 p);
+      nothing = λ p q. same (b .nothing p q);
+    })
+  where
+    same : {strobe number : ℕ} → Shows idle strobe number → Shows (shows (shown .verdict) (shown .corrected) (shown .word) idle) strobe number
+    same s = record { strobe-is = s .strobe-is; number-is = s .number-is }
+
+-- ---- a clock that finishes no frame
+
+unmoved-errors : (before : Errors) (shown : Outputs) → shown .verdict ≡ 0 → ErrorsMove before shown before
+unmoved-errors before shown z =
+    record {
+      double-up = λ p. absurd (⊎-elim (λ q. omega arith) (⊎-elim (λ q. omega arith) (λ q. omega arith)) p);
+      single-up = λ p.
+          absurd (⊎-elim (λ q. omega arith) (⊎-elim (λ q. omega arith) (⊎-elim (λ q. omega arith) (⊎-elim (λ q. omega arith) (λ q. omega arith)))) (p .1));
+      reset = λ p. absurd (omega arith);
+      double-stays = λ p q. refl;
+      single-stays = λ p q. refl;
+      status-cleared = λ p. absurd (omega arith);
+      status-set = λ p q. absurd (p z);
+      status-stays = λ p. refl;
+    }
+
+unmoved-settings : (before : Settings) (shown : Outputs) → shown .verdict ≡ 0 → SettingsMove before shown before
+unmoved-settings before shown z =
+    record {
+      stored-byte = λ p. absurd (omega arith);
+      others-stay = λ p number l n. refl;
+      config-stays = λ p. (refl, refl);
+      settings-stay = λ p q. refl;
+    }
+
 abbrev IsUnfinished : Taken → Type 0
 IsUnfinished (Unfinished held) = Unit {0}
 IsUnfinished (Finished kind number) = ⊥
@@ -141,8 +193,8 @@ module _ (columns : Kind → List ℕ) where
       same true = refl
       same false = refl
 
-  keeps-form : laws.KeepsForm columns
-  keeps-form r trigger bit e =
+  stays-well-formed : laws.StaysWellFormed columns
+  stays-well-formed r trigger bit e =
       by-refusal (λ (a : ClockAnswer). wellFormed (a .receiver) ≡ true) r trigger bit
       (λ h. receiver-ok _ (step-facts columns r trigger bit (receiver-facts r e) (h .2)))
       (λ n m. e)
@@ -151,7 +203,7 @@ module _ (columns : Kind → List ℕ) where
 
   by-taken : (P : Taken → ClockAnswer → Type 0) (r : Receiver) (trigger bit : ℕ)
       → ((held : Held) → P (Unfinished held) (clockedAnswer held (idleClock (r .core) trigger)))
-      → ((kind : Kind) (number : ℕ) → P (Finished kind number) (clockedAnswer nothingHeld (finished kind (decodedFrame columns kind number) (idleClock (r .core) trigger))))
+      → ((kind : Kind) (number : ℕ) → P (Finished kind number) (clockedAnswer nothingHeld (finished kind (finishedAnswer columns kind number) (idleClock (r .core) trigger))))
       → P (takeBit (r .held) bit) (stepAnswer columns r trigger bit)
   unfolding stepAnswer
   by-taken P r trigger bit unfinished done = go (takeBit (r .held) bit)
@@ -168,6 +220,16 @@ module _ (columns : Kind → List ℕ) where
       (λ held. (λ e kind number f. subst IsUnfinished f tt, λ f. refl))
       (λ kind number. (λ e. absurd (fate-not-zero kind _ _ e), λ f. absurd (f kind number refl))))
 
+  no-frame-law : laws.NoFrameLaw columns
+  unfolding stepAnswer
+  no-frame-law r trigger bit held h e = accepted r trigger bit h ∙ rw e refl
+
+  verdict-law : laws.VerdictLaw columns
+  unfolding stepAnswer finishedAnswer idleClock
+  verdict-law r trigger bit kind number h f =
+      rw (accepted r trigger bit h, f, finished-answer columns kind number (finishes-frames r bit kind number (h .0) (h .2) f))
+      (shows-frame kind (judged (columns kind) kind number) (idleClock (r .core) trigger))
+
   waits-after : laws.WaitsAfter columns
   unfolding idleClock
   waits-after r trigger bit =
@@ -177,6 +239,8 @@ module _ (columns : Kind → List ℕ) where
       (λ kind number n. waits-none _))
       (λ n m z. absurd (z refl))
 
+  -- ---- steps 1 and 2
+
   outputs-stand : laws.OutputsStand columns
   unfolding finished
   outputs-stand r trigger bit h =
@@ -184,6 +248,55 @@ module _ (columns : Kind → List ℕ) where
       (by-taken (λ taken (a : ClockAnswer). Stands (a .outputs) (idleClock (r .core) trigger .outputs)) r trigger bit
       (λ held. record { trigger-stands = refl; missed-stands = refl; strobe-stands = refl; number-stands = refl })
       (λ kind number. record { trigger-stands = refl; missed-stands = refl; strobe-stands = refl; number-stands = refl }))
+
+  bus-law : laws.BusLaw columns
+  unfolding finished
+  bus-law r trigger bit h =
+      rw (accepted r trigger bit h)
+      (by-taken (λ taken (a : ClockAnswer). BusShows (r .core) trigger (a .outputs)) r trigger bit
+      (λ held. idle-shows (r .core) trigger)
+      (λ kind number. same-bus (r .core) trigger _ _ refl (idle-shows (r .core) trigger)))
+
+  sequence-law : laws.SequenceLaw columns
+  unfolding finished
+  sequence-law r trigger bit h =
+      rw (accepted r trigger bit h)
+      (by-taken (λ taken (a : ClockAnswer). a .outputs .verdict ≢ 3 → SequenceLeft (r .core) trigger (a .receiver .core .sequence)) r trigger bit
+      (λ held n. idle-left (r .core) trigger)
+      (λ kind number n. rw (fate-sequence kind (finishedAnswer columns kind number) (idleClock (r .core) trigger .core) n) (idle-left (r .core) trigger)))
+
+  advance-law : laws.AdvanceLaw columns
+  unfolding finishedAnswer
+  advance-law r trigger bit h =
+      let f = receiver-facts r (h .0) .of-core .of-counters in
+      rw (accepted r trigger bit h)
+      (by-taken (λ taken (a : ClockAnswer). CountersAdvance (r .core .counters) trigger (a .outputs) (a .receiver .core .counters)) r trigger bit
+      (λ held. advance (r .core) trigger _ f (h .1) (idle-goes (idleClock (r .core) trigger) (idle-verdict (r .core) trigger)))
+      (λ kind number. advance (r .core) trigger _ f (h .1) (finished-goes kind (judged (columns kind) kind number) (idleClock (r .core) trigger))))
+
+  -- ---- step 3
+
+  errors-law : laws.ErrorsLaw columns
+  unfolding idleClock finishedAnswer
+  errors-law r trigger bit =
+      by-refusal Moves r trigger bit
+      (λ h. by-taken (λ taken a. Moves a) r trigger bit (λ held. unmoved-errors (r .core .errors) _ refl)
+      (λ kind number. finished-moves kind (judged (columns kind) kind number) (idleClock (r .core) trigger)))
+      (λ n z. unmoved-errors (r .core .errors) _ refl)
+    where
+      Moves : ClockAnswer → Type 0
+      Moves a = ErrorsMove (r .core .errors) (a .outputs) (a .receiver .core .errors)
+
+  settings-law : laws.SettingsLaw columns
+  unfolding idleClock finishedAnswer
+  settings-law r trigger bit =
+      by-refusal Moves r trigger bit
+      (λ h. by-taken (λ taken a. Moves a) r trigger bit (λ held. unmoved-settings (r .core .settings) _ refl)
+      (λ kind number. finished-settings kind (judged (columns kind) kind number) (idleClock (r .core) trigger)))
+      (λ n z. unmoved-settings (r .core .settings) _ refl)
+    where
+      Moves : ClockAnswer → Type 0
+      Moves a = SettingsMove (r .core .settings) (a .outputs) (a .receiver .core .settings)
 
   reset-is-fresh : laws.ResetIsFresh columns
   unfolding finished idleClock countErrors
@@ -197,65 +310,14 @@ module _ (columns : Kind → List ℕ) where
       Reset : ClockAnswer → Type 0
       Reset a = a .outputs .verdict ≡ 3 → a .receiver ≡ freshState (r .core .ids)
 
-  -- ---- the bus and the two counters
-
-  bus-law : laws.BusLaw columns
-  unfolding finished
-  bus-law r trigger bit h =
-      rw (accepted r trigger bit h)
-      (by-taken (λ taken (a : ClockAnswer). BusNumbers r (a .outputs)) r trigger bit
-      (λ held. idle-bus r trigger (receiver-facts r (h .0) .of-core .of-sequence))
-      (λ kind number.
-      let b = idle-bus r trigger (receiver-facts r (h .0) .of-core .of-sequence) in
-      record { none = b .none; bunch-number = b .bunch-number; event-low = b .event-low; kept-low = b .kept-low; kept-high = b .kept-high }))
-
-  advance-law : laws.AdvanceLaw columns
-  unfolding decodedFrame
-  advance-law r trigger bit h =
-      let f = receiver-facts r (h .0) .of-core .of-counters in
-      rw (accepted r trigger bit h)
-      (by-taken (λ taken (a : ClockAnswer). CountersAdvance r trigger a) r trigger bit
-      (λ held. advance r trigger held _ f (h .1) (idle-goes (idleClock (r .core) trigger) (idle-verdict (r .core) trigger)))
-      (λ kind number. advance r trigger nothingHeld _ f (h .1) (finished-goes kind (judged (columns kind) kind number) (idleClock (r .core) trigger))))
-
-  -- ---- the error counters
-
-  -- verdict 0: neither counter moves
-  unmoved : (r : Receiver) (done : ClockAnswer) → done .outputs .verdict ≡ 0 → done .receiver .core .errors ≡ r .core .errors → ErrorsMove r done
-  unmoved r done z e =
-      record {
-        double-up = λ p. absurd (⊎-elim (λ q. omega arith) (⊎-elim (λ q. omega arith) (λ q. omega arith)) p);
-        single-up = λ p.
-            absurd (⊎-elim (λ q. omega arith) (⊎-elim (λ q. omega arith) (⊎-elim (λ q. omega arith) (⊎-elim (λ q. omega arith) (λ q. omega arith)))) (p .1));
-        reset = λ p. absurd (omega arith);
-        double-stays = λ p q. ap (λ (x : Errors). x .double) e;
-        single-stays = λ p q. ap (λ (x : Errors). x .single) e;
-        status-cleared = λ p. absurd (omega arith);
-        status-set = λ p q. absurd (p z);
-        status-stays = λ p. ap (λ (x : Errors). x .status5) e;
-      }
-
-  errors-law : laws.ErrorsLaw columns
-  unfolding idleClock decodedFrame
-  errors-law r trigger bit =
-      by-refusal (ErrorsMove r) r trigger bit
-      (λ h. by-taken (λ taken a. ErrorsMove r a) r trigger bit
-      (λ held. unmoved r _ refl refl)
-      (λ kind number.
-      let m = finished-moves kind (judged (columns kind) kind number) (idleClock (r .core) trigger) in
-      record {
-        double-up = m .double-up;
-        single-up = m .single-up;
-        reset = m .reset;
-        double-stays = m .double-stays;
-        single-stays = m .single-stays;
-        status-cleared = m .status-cleared;
-        status-set = m .status-set;
-        status-stays = m .status-stays;
-      }))
-      (λ n z. unmoved r _ refl refl)
-
-  -- ---- executed frames
+  ids-stay : laws.IdsStay columns
+  unfolding finished idleClock
+  ids-stay r trigger bit =
+      by-refusal (λ (a : ClockAnswer). a .receiver .core .ids ≡ r .core .ids) r trigger bit
+      (λ h. by-taken (λ taken (a : ClockAnswer). a .receiver .core .ids ≡ r .core .ids) r trigger bit
+      (λ held. refl)
+      (λ kind number. fate-ids kind (finishedAnswer columns kind number) (idleClock (r .core) trigger .core)))
+      (λ n m. refl)
 
   executed-exactly : ((kind : Kind) → FrameFacts (columns kind) kind) → laws.ExecutedExactly columns
   unfolding stepAnswer idleClock
@@ -269,17 +331,22 @@ clock-theorem columns good =
       nothing-else-refused = nothing-else-refused columns;
       refused-by-2 = refused-by-2 columns;
       refused-by-1 = refused-by-1 columns;
-      keeps-form = keeps-form columns;
+      stays-well-formed = stays-well-formed columns;
       waits-law = waits-law;
       fresh-waits = λ own. waits-none (freshCore own);
       finishes-frames = finishes-frames;
+      no-frame-law = no-frame-law columns;
       verdict-zero = verdict-zero columns;
+      verdict-law = verdict-law columns;
       waits-after = waits-after columns;
       outputs-stand = outputs-stand columns;
-      reset-is-fresh = reset-is-fresh columns;
       bus-law = bus-law columns;
+      sequence-law = sequence-law columns;
       advance-law = advance-law columns;
       errors-law = errors-law columns;
+      settings-law = settings-law columns;
+      reset-is-fresh = reset-is-fresh columns;
+      ids-stay = ids-stay columns;
       executed-exactly = executed-exactly columns (λ kind. frame-theorem (columns kind) kind (good kind .0) (good kind .1));
     }
 

@@ -1,7 +1,9 @@
 pub mod TakeBit
 pub mod Keep
-mod BusShows
+mod BusSequence
 mod Advance
 mod Counts
+mod Stored
+mod Verdicts
 mod Executed
 pub mod Laws

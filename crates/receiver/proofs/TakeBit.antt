@@ -17,7 +17,7 @@ use Rattle.receiver_state.specs.State.{holding}
 use Rattle.receiver_state.specs.WellFormed.{HeldFacts}
 use Rattle.receiver.specs.declared.Taken.{Taken}
 use Rattle.receiver.specs.declared.Taken.the-variants.{Unfinished, Finished}
-use Rattle.receiver.specs.TakeBit.{grown, takeBit}
+use Rattle.receiver.specs.TakeBit.{frameOrPart, takeBit}
 
 abbrev pub TakenFacts : Taken → Type 0
 TakenFacts (Unfinished held) = HeldFacts held
@@ -55,9 +55,9 @@ unfinished n v e f g =
         let many : frameBits Short ≤ n = ltb-false n (frameBits Short) d in
         inr (⊎-elim (λ l. no-short n v (omega arith) f) (λ l. l) (g .format))
 
-grown-facts : (n v : ℕ) → Grown n v → TakenFacts (grown n v)
-unfolding grown
-grown-facts n v g =
+frameOrPart-facts : (n v : ℕ) → Grown n v → TakenFacts (frameOrPart n v)
+unfolding frameOrPart
+frameOrPart-facts n v g =
     picked-by TakenFacts (eqb n (frameBits Long)) (λ e. long-frame n v (eqb-true n (frameBits Long) e) g)
     (λ e. picked-by TakenFacts (eqb n (frameBits Short) && isFrame Short v)
     (λ f. both (eqb n (frameBits Short)) (isFrame Short v) f .1)
@@ -81,4 +81,4 @@ unfolding takeBit
 taken-facts h bit f b =
     picked-by TakenFacts (eqb (h .count) 0)
     (λ e. picked-by TakenFacts (eqb bit 0) (λ z. record { few = omega arith; start = omega arith; format = inl (omega arith) }) (λ z. f))
-    (λ e. grown-facts (h .count + 1) (h .bits * 2 + bit) (more h bit f b (eqb-false (h .count) 0 e)))
+    (λ e. frameOrPart-facts (h .count + 1) (h .bits * 2 + bit) (more h bit f b (eqb-false (h .count) 0 e)))

@@ -1,4 +1,4 @@
--- Document 01, "Fate of a finished frame": the table of verdicts, as a change of what the same clock leaves and shows with channel B idle.
+-- Document 01, "Fate of a finished frame": the table of verdicts, as a change of what steps 1 and 2 of the same clock leave and show.
 -- So "Its clears and RESET win over steps 1 and 2 in the state; the outputs of this clock stand, and RESET ends a running sequence."
 use Prim.Native.Nat.{ℕ, _+_, _/_, _%_}
 use mathlib.Core.Bool.{Bool, true, false, cond, not, _&&_}
@@ -24,9 +24,9 @@ abbrev pub columnsOf : Kind → List ℕ
 columnsOf Short = shortColumns
 columnsOf Long = longColumns
 
--- the frame decoded: rows 7, 8 and 9 of the table with the word and flag to be shown, else the fields, by `frame`'s decoder
-unfoldable pub decodedFrame : (Kind → List ℕ) → Kind → ℕ → Answer
-decodedFrame columns kind number = answerTo kind (judged (columns kind) kind number)
+-- the frame decoded by `frame`: rows 7, 8 and 9 of the table, tested in its order, or the fields; and flag and word as they are to be shown
+unfoldable pub finishedAnswer : (Kind → List ℕ) → Kind → ℕ → Answer
+finishedAnswer columns kind number = answerTo kind (judged (columns kind) kind number)
 
 -- ---- effects
 
@@ -68,25 +68,26 @@ abbrev pub row : ℕ → Core → Row
 row verdict core = record { verdict = verdict; core = core }
 
 -- 01's term "fate": "Tested in this order. The first that holds is the verdict." A row is the verdict, and the core after the effect.
+-- Rows 7, 8 and 9 were tested in this order by `judged` of the crate `frame`, and come here as the verdict of its answer.
 unfoldable pub fate : Kind → Answer → Core → Row
 fate kind frame core =
-    -- stop bit is 0
+    -- 7, "stop bit is 0": "double error counter up"
     cond (eqb (frame .verdict) 7) (row 7 (doubleUp core))
-    -- syndrome can't be corrected
+    -- 8, "syndrome can't be corrected": "double error counter up"
     (cond (eqb (frame .verdict) 8) (row 8 (doubleUp core))
-    -- long, fixed bit 0 after correction
+    -- 9, "long, fixed bit 0 after correction": "double error counter up"
     (cond (eqb (frame .verdict) 9) (row 9 (doubleUp core))
-    -- short
+    -- 1, "short": "data bit 0 clears the bunch counter, bit 1 the event counter"; all 8 bits are in the word
     (cond (isShort kind) (row 1 (withCounters (cleared (frame .fields .«data») (core .counters)) core))
-    -- address neither 0 nor this ID
+    -- 5, "address neither 0 nor this ID": "none"
     (cond (foreign (frame .fields .address) (core .ids .id)) (row 5 core)
-    -- E = 1
+    -- 4, "E = 1": "word shown outside"
     (cond (eqb (frame .fields .e) 1) (row 4 core)
-    -- sub-address 0, 1, 2 or 3
+    -- 2, "sub-address 0, 1, 2 or 3": "data goes to that register"
     (cond (ltb (frame .fields .sub) 4) (row 2 (withSettings (stored (frame .fields .sub) (frame .fields .«data») (core .settings)) core))
-    -- sub-address 6 (RESET): the fresh state of the same IDs
+    -- 3, "sub-address 6 (RESET)": "state becomes the fresh one of the same IDs"
     (cond (eqb (frame .fields .sub) 6) (row 3 (freshCore (core .ids)))
-    -- other sub-address
+    -- 6, "other sub-address": "none"
     (row 6 core))))))))
 
 -- 01's term "executed": "means verdicts 1 to 4"
@@ -107,7 +108,7 @@ countErrors frame core =
     (cond (eqb (frame .verdict) 7) 0 1))
     core
 
--- verdict, corrected flag and word in place of the idle clock's; trigger output, missed flag and bus stand
+-- "the outputs of this clock stand": a finished frame adds its verdict, corrected flag and word to those of steps 1 and 2
 abbrev pub shows : ℕ → ℕ → ℕ → Outputs → Outputs
 shows verdict corrected word idle =
     record {
@@ -120,6 +121,7 @@ shows verdict corrected word idle =
       word = word;
     }
 
+-- "a corrected frame sets the corrected flag"; "The word shown is 0 for verdicts 0, 7 and 8, else the corrected data": as the decoder answers them
 abbrev pub shown : Answer → Row → Outputs → Clocked
 shown frame done idle = record { core = done .core; outputs = shows (done .verdict) (frame .corrected) (frame .word) idle }
 
@@ -129,4 +131,4 @@ finished kind frame idle = shown frame (fate kind frame (countErrors frame (idle
 -- "Verdict 0: no frame finished on this clock."
 abbrev pub applyFrame : (Kind → List ℕ) → Taken → Clocked → Clocked
 applyFrame columns (Unfinished held) idle = idle
-applyFrame columns (Finished kind number) idle = finished kind (decodedFrame columns kind number) idle
+applyFrame columns (Finished kind number) idle = finished kind (finishedAnswer columns kind number) idle

@@ -1,4 +1,5 @@
--- Document 01, "One clock", steps 1 and 2: what a clock with channel B idle leaves and shows. It sees neither the frame bits held nor channel B.
+-- Document 01, "One clock", steps 1 and 2 alone: what a clock leaves and shows where no frame finishes (`NoFrameLaw` of Laws.antt). They see
+-- neither the frame bits held nor channel B.
 -- "All numbers used are those before the clock."
 use Prim.Native.Nat.{ℕ, _+_, _/_, _%_, _^_}
 use mathlib.Core.Bool.{cond}
@@ -15,8 +16,8 @@ use Rattle.receiver_state.specs.State.{counters, wordsLeft, noSequence, withCou
 abbrev pub bus : Sequence → ℕ → ℕ → ℕ → Bus
 bus left strobe number missed = record { sequence = left; strobe = strobe; number = number; missed = missed }
 
-abbrev pub silent : Bus
-silent = bus noSequence 0 0 0
+abbrev pub noStrobe : Bus
+noStrobe = bus noSequence 0 0 0
 
 -- "low 12 bits of the event number now, high 12 on the next clock"
 abbrev pub eventLow : ℕ → ℕ
@@ -26,7 +27,8 @@ abbrev pub eventHigh : ℕ → ℕ
 eventHigh event = event / 2 ^ 12
 
 -- "If a sequence is running (words left before this clock), it goes on, as it does on every clock, and the missed flag is 1", if a trigger came.
--- With two words left event low comes, with one left event high.
+-- With two words left event low comes, with one left event high. It does not see control: "A later write to the control register doesn't alter a
+-- running sequence."
 unfoldable pub continued : Sequence → ℕ → Bus
 continued sequence trigger =
     cond (eqb (sequence .left) 2)
@@ -40,21 +42,21 @@ started now mode =
     cond (eqb mode 1) (bus noSequence 1 (now .bunch) 0)
     (cond (eqb mode 2) (bus (wordsLeft 1 (now .event)) 2 (eventLow (now .event)) 0)
     (cond (eqb mode 3) (bus (wordsLeft 2 (now .event)) 1 (now .bunch) 0)
-    silent))
+    noStrobe))
 
 -- "If no sequence is running, one starts by control bits 1..0."
 unfoldable pub busStep : Core → ℕ → Bus
 busStep core trigger =
     cond (ltb 0 (core .sequence .left)) (continued (core .sequence) trigger)
     (cond (eqb trigger 1) (started (core .counters) (core .settings .control % 2 ^ 2))
-    silent)
+    noStrobe)
 
--- "Trigger bit 1: .. the event counter goes up modulo 2^24"; "The bunch counter goes up modulo 4096"
+-- "Trigger bit 1: trigger output 1 and the event counter goes up modulo 2^24."; "The bunch counter goes up modulo 4096."
 unfoldable pub countClock : Counters → ℕ → Counters
 countClock now trigger =
     counters ((now .bunch + 1) % 4096) (cond (eqb trigger 1) ((now .event + 1) % 2 ^ 24) (now .event))
 
--- the clock with channel B idle: no frame finishes
+-- "trigger output 1" on a trigger; and as no frame finishes, verdict, corrected flag and word are 0
 unfoldable pub idleClock : Core → ℕ → Clocked
 idleClock core trigger =
     record {

@@ -1,5 +1,5 @@
 -- Document 01, "Frames on channel B": one bit of channel B on the frame bits held. It sees no trigger, register or counter.
--- `Taken` is the enum of src/lib.rt: the bits of an unfinished frame, or a finished frame's kind and number.
+-- `Taken` is the enum of src/lib.rt: no frame finished, and the bits then held, if any; or a finished frame's kind and number.
 use Prim.Native.Nat.{ℕ, _+_, _*_}
 use mathlib.Core.Path.{_≡_}
 use mathlib.Core.Bool.{cond, _&&_}
@@ -12,19 +12,20 @@ use Rattle.receiver.specs.declared.Taken.the-variants.{Unfinished, Finis
 use Rattle.receiver_state.specs.declared.Receiver.{Receiver}
 use Rattle.receiver_state.specs.State.{holding, nothingHeld}
 
--- what so many bits with this number are: a long frame has 42 bits, a short one 16, with start 0 and format 0
-unfoldable pub grown : ℕ → ℕ → Taken
-grown count bits =
+-- what that many bits, read as this number, are: a long frame has 42 bits, a short one 16, with start 0 and format 0. More than 16 are held only
+-- with format 1 ("Well formed"), so at 42 the format needs no test (`FinishesFrames` of Laws.antt).
+unfoldable pub frameOrPart : ℕ → ℕ → Taken
+frameOrPart count bits =
     cond (eqb count (frameBits Long)) (Finished Long bits)
     (cond (eqb count (frameBits Short) && isFrame Short bits) (Finished Short bits)
     (Unfinished (holding count bits)))
 
--- "Idle is 1", and the start bit is 0; any other bit comes behind the bits held ("first bit sent = most significant")
+-- with no bit held a 1 is idle ("Idle is 1") and a 0 the start bit; otherwise the bit comes behind those held ("first bit sent = most significant")
 unfoldable pub takeBit : Held → ℕ → Taken
 takeBit held bit =
     cond (eqb (held .count) 0)
     (cond (eqb bit 0) (Unfinished (holding 1 0)) (Unfinished held))
-    (grown (held .count + 1) (held .bits * 2 + bit))
+    (frameOrPart (held .count + 1) (held .bits * 2 + bit))
 
 -- "After a finished frame, of every verdict, the receiver waits for a start bit"
 abbrev pub heldAfter : Taken → Held

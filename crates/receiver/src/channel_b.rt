@@ -3,14 +3,14 @@
 ghost use mathlib.Core.Path.{_≡_};
 ghost use Prim.Native.Nat.{_<_};
 ghost use Rattle.receiver_state.specs.WellFormed.{HeldFacts};
-ghost use Rattle.receiver.specs.TakeBit.{grown, takeBit, heldAfter};
+ghost use Rattle.receiver.specs.TakeBit.{frameOrPart, takeBit, heldAfter};
 use crate::Taken;
 use frame::Kind;
 use receiver_state::Held;
 
 // What so many bits with this number are: a whole frame, or a part of one.
-fn grown_to(count: u8, bits: u64) -> Taken
-    ensures { λ r. ⌜ r ≡ grown count bits ⌝ }
+fn frame_or_part(count: u8, bits: u64) -> Taken
+    ensures { λ r. ⌜ r ≡ frameOrPart count bits ⌝ }
 {
     if count == 42 {
         return Taken::Finished {
@@ -40,7 +40,7 @@ pub(crate) fn take_bit(held: Held, bit: u8) -> Taken
         }
         return Taken::Unfinished(held);
     }
-    grown_to(held.count + 1, held.bits * 2 + bit as u64)
+    frame_or_part(held.count + 1, held.bits * 2 + bit as u64)
 }
 
 // A finished frame leaves none.

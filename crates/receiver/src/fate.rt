@@ -1,5 +1,5 @@
-// Document 01, "Fate of a finished frame": the table of verdicts, as a change of what the same clock
-// leaves and shows with channel B idle.
+// Document 01, "Fate of a finished frame": the table of verdicts, as a change of what steps 1 and 2
+// of the same clock leave and show.
 ghost use mathlib.Core.Path.{_≡_};
 ghost use mathlib.Core.Logic.{_≢_};
 ghost use mathlib.Core.Bool.{cond};
@@ -7,7 +7,7 @@ ghost use lib.Dec.{eqb};
 ghost use Prim.Native.Nat.{_<_};
 ghost use Rattle.frame.specs.declared.Kind.the-variants.{Long};
 ghost use Rattle.receiver_state.specs.State.{withSettings, withCounters};
-ghost use Rattle.receiver.specs.Fate.{row, upTo, doubleUp, cleared, stored, foreign, countErrors, columnsOf, decodedFrame, fate, finished, applyFrame};
+ghost use Rattle.receiver.specs.Fate.{row, upTo, doubleUp, cleared, stored, foreign, countErrors, columnsOf, finishedAnswer, fate, finished, applyFrame};
 use crate::Clocked;
 use crate::Outputs;
 use crate::Row;
@@ -25,7 +25,7 @@ use receiver_state::fresh_core;
 
 // The frame number decoded, with document 01's columns.
 fn decode_finished(kind: Kind, number: u64) -> Answer
-    ensures { λ r. ⌜ r ≡ decodedFrame columnsOf kind number ⌝ }
+    ensures { λ r. ⌜ r ≡ finishedAnswer columnsOf kind number ⌝ }
 {
     let table = column_table();
     match kind {
@@ -156,8 +156,8 @@ fn is_foreign(address: u16, id: u16) -> bool
     address != 0 && address != id
 }
 
-// A row of a frame that is lost.
-fn lost_row(verdict: u8, core: Core) -> Row
+// Rows 7, 8 and 9.
+fn double_error_row(verdict: u8, core: Core) -> Row
     ensures { λ r. ⌜ r ≡ row verdict (doubleUp core) ⌝ }
 {
     let core = double_up(core);
@@ -170,7 +170,7 @@ fn row_of(verdict: u8, core: Core) -> Row
     Row { verdict, core }
 }
 
-// The rows of a long frame that was not lost, in the table's order.
+// The rows of a good long frame, in the table's order.
 fn long_fate(frame: Answer, core: Core) -> Row
     requires { ⌜ (frame .verdict ≢ 7) × (frame .verdict ≢ 8) × (frame .verdict ≢ 9) ⌝ }
     ensures { λ r. ⌜ r ≡ fate Long frame core ⌝ }
@@ -201,13 +201,13 @@ fn fate_of(kind: Kind, frame: Answer, core: Core) -> Row
     let verdict = frame.verdict;
     let byte = frame.fields.data;
     if verdict == 7 {
-        return lost_row(7, core);
+        return double_error_row(7, core);
     }
     if verdict == 8 {
-        return lost_row(8, core);
+        return double_error_row(8, core);
     }
     if verdict == 9 {
-        return lost_row(9, core);
+        return double_error_row(9, core);
     }
     match kind {
         Kind::Short => row_of(1, clear_counters(byte, core)),
@@ -215,9 +215,9 @@ fn fate_of(kind: Kind, frame: Answer, core: Core) -> Row
     }
 }
 
-// A finished frame, on what the same clock leaves and shows with channel B idle.
+// A finished frame, on what steps 1 and 2 leave and show.
 fn finish(kind: Kind, number: u64, idle: Clocked) -> Clocked
-    ensures { λ r. ⌜ r ≡ finished kind (decodedFrame columnsOf kind number) idle ⌝ }
+    ensures { λ r. ⌜ r ≡ finished kind (finishedAnswer columnsOf kind number) idle ⌝ }
 {
     let frame = decode_finished(kind, number);
     let done = fate_of(kind, frame, count_errors(frame, idle.core));
@@ -229,7 +229,7 @@ fn finish(kind: Kind, number: u64, idle: Clocked) -> Clocked
     Clocked { core, outputs }
 }
 
-// Where no frame is finished, the clock is the idle one.
+// Where no frame finishes, steps 1 and 2 are all.
 pub(crate) fn apply_frame(taken: Taken, idle: Clocked) -> Clocked
     ensures { λ r. ⌜ r ≡ applyFrame columnsOf taken idle ⌝ }
 {

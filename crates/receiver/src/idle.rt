@@ -1,9 +1,9 @@
-// Document 01, "One clock", steps 1 and 2: the clock with channel B idle. It sees neither the frame
-// bits held nor channel B.
+// Document 01, "One clock", steps 1 and 2 alone: the clock where no frame finishes. They see neither
+// the frame bits held nor channel B.
 ghost use mathlib.Core.Path.{_≡_};
 ghost use Prim.Native.Nat.{_<_};
 ghost use Rattle.receiver_state.specs.WellFormed.{CountersFacts, SequenceFacts, CoreFacts};
-ghost use Rattle.receiver.specs.IdleClock.{silent, continued, started, busStep, countClock, idleClock};
+ghost use Rattle.receiver.specs.IdleClock.{noStrobe, continued, started, busStep, countClock, idleClock};
 use crate::Bus;
 use crate::Clocked;
 use crate::Outputs;
@@ -12,8 +12,8 @@ use receiver_state::Counters;
 use receiver_state::Sequence;
 
 // The bus shows nothing, and no sequence is left.
-fn silent_bus() -> Bus
-    ensures { λ r. ⌜ r ≡ silent ⌝ }
+fn no_strobe() -> Bus
+    ensures { λ r. ⌜ r ≡ noStrobe ⌝ }
 {
     Bus {
         sequence: Sequence { left: 0, event: 0 },
@@ -81,7 +81,7 @@ fn start_sequence(counters: Counters, mode: u8) -> Bus
             missed: 0,
         };
     }
-    silent_bus()
+    no_strobe()
 }
 
 fn bus_step(core: Core, trigger: u8) -> Bus
@@ -94,7 +94,7 @@ fn bus_step(core: Core, trigger: u8) -> Bus
     if trigger == 1 {
         return start_sequence(core.counters, core.settings.control % 4);
     }
-    silent_bus()
+    no_strobe()
 }
 
 fn count_clock(counters: Counters, trigger: u8) -> Counters
@@ -114,7 +114,7 @@ fn count_clock(counters: Counters, trigger: u8) -> Counters
     }
 }
 
-// The clock with channel B idle.
+// Steps 1 and 2.
 pub(crate) fn idle_clock(core: Core, trigger: u8) -> Clocked
     requires { ⌜ CoreFacts core ⌝ }
     ensures { λ r. ⌜ r ≡ idleClock core trigger ⌝ }

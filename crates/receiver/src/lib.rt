@@ -40,7 +40,7 @@ pub struct ClockAnswer {
     pub outputs: Outputs,
 }
 
-// What a bit of channel B leaves: the bits of an unfinished frame, or a whole frame.
+// What a bit of channel B leaves: the bits then held, none if the receiver waits; or a whole frame.
 pub enum Taken {
     Unfinished(Held),
     Finished { kind: Kind, number: u64 },

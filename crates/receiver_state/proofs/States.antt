@@ -5,7 +5,7 @@ use Prim.Native.Nat.{ℕ, _<_, _≤_}
 use native.Mathlib.Omega.{arith}
 use Rattle.laws.proofs.Rules.{tests}
 use Rattle.receiver_state.specs.declared.Ids.{Ids}
-use Rattle.receiver_state.specs.State.{ids, refusedFresh, freshState, freshAnswer}
+use Rattle.receiver_state.specs.State.{refusedFresh, freshState, freshAnswer}
 use Rattle.receiver_state.specs.WellFormed.{IdsFacts, ReceiverFacts}
 use Rattle.receiver_state.specs.States.{WellFormedLaw, FreshLaws}
 use Rattle.receiver_state.proofs.WellFormed.{receiver-facts, receiver-ok}
@@ -39,10 +39,12 @@ pub fresh-laws : FreshLaws
 unfolding freshAnswer
 fresh-laws =
     record {
-      accepted = λ id i2c r. let some : id ≢ 0 = not-zero id (r .0) in let h : id ≤ 16383 = r .1 in let k : i2c ≤ 63 = r .2 in search tests;
-      well-formed = λ id i2c r.
-          receiver-ok (freshState (ids id i2c))
-          (fresh-facts (ids id i2c) (record { some = r .0; below = r .1; i2c-below = r .2 }));
+      accepted = λ id i2c f.
+          let some : id ≢ 0 = not-zero id (f .some) in
+          let high : id ≤ 16383 = f .below in
+          let i2c-high : i2c ≤ 63 = f .i2c-below in
+          search tests;
+      well-formed = λ own f. receiver-ok (freshState own) (fresh-facts own f);
       status = λ own. refl;
       refused-3 = refused-3;
       refused-4 = λ id i2c least low high. let some : id ≢ 0 = not-zero id least in search tests;

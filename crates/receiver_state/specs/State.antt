@@ -1,5 +1,4 @@
 -- Document 01, "Registers": the fresh state, and states with one part changed. `Receiver` and its parts are the structs of src/lib.rt.
--- Records of the state are written out here alone.
 use Prim.Native.Nat.{ℕ, _+_, _*_, _^_}
 use mathlib.Core.Bool.{cond}
 use lib.Dec.{eqb, ltb}
@@ -80,17 +79,19 @@ newCore own settings status5 =
 abbrev pub freshCore : Ids → Core
 freshCore own = newCore own freshSettings 1
 
--- 01's term "fresh"; it is "waiting"
+-- 01's term "fresh"; it is "waiting". `FreshLaws` of States.antt says that it is well formed, and `FreshWaits` of the crate `receiver` that it waits.
 abbrev pub freshState : Ids → Receiver
 freshState own = receiver (freshCore own) nothingHeld
 
--- "waiting"
-abbrev pub freshOf : ℕ → Core → FreshAnswer
-freshOf refusal core = record { refusal = refusal; receiver = receiver core nothingHeld }
-
 -- a refused fresh state: every field 0
+abbrev pub zeroState : Receiver
+zeroState = receiver (newCore (ids 0 0) (record { fine1 = 0; fine2 = 0; coarse = 0; control = 0; config2 = 0; config3 = 0 }) 0) nothingHeld
+
+abbrev pub freshOf : ℕ → Receiver → FreshAnswer
+freshOf refusal r = record { refusal = refusal; receiver = r }
+
 abbrev pub refusedFresh : ℕ → FreshAnswer
-refusedFresh refusal = freshOf refusal (newCore (ids 0 0) (record { fine1 = 0; fine2 = 0; coarse = 0; control = 0; config2 = 0; config3 = 0 }) 0)
+refusedFresh refusal = freshOf refusal zeroState
 
 -- refusal 3, "ID 0 or over 16383", "first"; 4, "I2C ID over 63", "after 3"
 unfoldable pub freshAnswer : ℕ → ℕ → FreshAnswer
@@ -98,4 +99,4 @@ freshAnswer id i2c =
     cond (eqb id 0) (refusedFresh 3)
     (cond (ltb 16383 id) (refusedFresh 3)
     (cond (ltb 63 i2c) (refusedFresh 4)
-    (freshOf 0 (freshCore (ids id i2c)))))
+    (freshOf 0 (freshState (ids id i2c)))))

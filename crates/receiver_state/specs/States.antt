@@ -9,8 +9,8 @@ use Rattle.frame.specs.Numbers.{frameBits, isFrame}
 use Rattle.receiver_state.specs.declared.Ids.{Ids}
 use Rattle.receiver_state.specs.declared.Held.{Held}
 use Rattle.receiver_state.specs.declared.Receiver.{Receiver}
-use Rattle.receiver_state.specs.State.{ids, nothingHeld, statusByte, freshCore, freshState, refusedFresh, freshAnswer}
-use Rattle.receiver_state.specs.WellFormed.{wellFormed, HeldFacts, ReceiverFacts}
+use Rattle.receiver_state.specs.State.{ids, nothingHeld, statusByte, freshCore, freshState, freshOf, refusedFresh, freshAnswer}
+use Rattle.receiver_state.specs.WellFormed.{wellFormed, IdsFacts, HeldFacts, ReceiverFacts}
 
 -- ---- well formed
 
@@ -33,14 +33,10 @@ HeldLaw = (h : Held) → HeldFacts h ↔ ((h ≡ nothingHeld) ⊎ (PartOf Short 
 
 -- ---- fresh
 
--- "IDs in range"
-abbrev pub InRange : ℕ → ℕ → Type 0
-InRange id i2c = (1 ≤ id) × (id ≤ 16383) × (i2c ≤ 63)
-
 pub record FreshLaws : Type 0 where
   -- IDs in range give the fresh state, which is well formed and whose status is 0xE0
-  pub accepted : (id i2c : ℕ) → InRange id i2c → freshAnswer id i2c ≡ record { refusal = 0; receiver = freshState (ids id i2c) }
-  pub well-formed : (id i2c : ℕ) → InRange id i2c → wellFormed (freshState (ids id i2c)) ≡ true
+  pub accepted : (id i2c : ℕ) → IdsFacts (ids id i2c) → freshAnswer id i2c ≡ freshOf 0 (freshState (ids id i2c))
+  pub well-formed : (own : Ids) → IdsFacts own → wellFormed (freshState own) ≡ true
   pub status : (own : Ids) → statusByte (freshCore own) ≡ 0xE0
   -- all others are refused, by 3 before 4
   pub refused-3 : (id i2c : ℕ) → (id ≡ 0) ⊎ (16383 < id) → freshAnswer id i2c ≡ refusedFresh 3

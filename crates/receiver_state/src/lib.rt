@@ -1,10 +1,11 @@
 // Document 01, "Registers" (fresh) and "Well formed": the state of a receiver.
 //
 // It goes by value: it is some 50 bytes of plain data, a refusal hands it back as it came, and a
-// caller may keep any copy. Its parts are nested by what changes together, and their types are as
-// wide as document 01's ranges, so that "Well formed" has the paper's clauses and no others.
+// caller may keep any copy. Its parts are nested by what changes together. A field that "Well
+// formed" has no clause for has a type that is exactly as wide as document 01's range, so that the
+// test has the paper's clauses and no others.
 ghost use mathlib.Core.Path.{_≡_};
-ghost use Rattle.receiver_state.specs.State.{newCore, freshCore, freshOf, refusedFresh, freshAnswer};
+ghost use Rattle.receiver_state.specs.State.{receiver, nothingHeld, newCore, freshCore, freshOf, refusedFresh, freshAnswer};
 ghost use Rattle.receiver_state.specs.WellFormed.{wellFormed};
 use form::core_ok;
 use form::held_ok;
@@ -121,7 +122,7 @@ pub fn fresh_core(ids: Ids) -> Core
 }
 
 fn fresh_answer(refusal: u8, core: Core) -> FreshAnswer
-    ensures { λ r. ⌜ r ≡ freshOf refusal core ⌝ }
+    ensures { λ r. ⌜ r ≡ freshOf refusal (receiver core nothingHeld) ⌝ }
 {
     let held = Held { count: 0, bits: 0 };
     let receiver = Receiver { core, held };

@@ -1,5 +1,5 @@
 // The C interface: one exported function for each entry point, with its full contract.
-// include/ttcrx.h declares them. Every answer is a struct by value.
+// include/ttcrx.h declares them. An answer is a struct or a number, by value.
 ghost use mathlib.Core.Path.{_≡_};
 ghost use mathlib.Core.Bool.{cond};
 ghost use Rattle.hamming.specs.Columns.{shortColumns, longColumns};

@@ -15,17 +15,17 @@ returns-2 : tie.Need-returns-2
 unfolding takeBit
 returns-2 c = search picks
 
-add-grown-to : tie.Need-add-grown-to
-add-grown-to c = search needs
+add-frame-or-part : tie.Need-add-frame-or-part
+add-frame-or-part c = search needs
 
-mul-grown-to : tie.Need-mul-grown-to
-mul-grown-to c = omega (arith, pow-mono (c .before .before .before .before .pre .0 .few))
+mul-frame-or-part : tie.Need-mul-frame-or-part
+mul-frame-or-part c = omega (arith, pow-mono (c .before .before .before .before .pre .0 .few))
 
-add-grown-to-2 : tie.Need-add-grown-to-2
-add-grown-to-2 c = omega (arith, pow-mono (c .before .before .before .before .pre .0 .few))
+add-frame-or-part-2 : tie.Need-add-frame-or-part-2
+add-frame-or-part-2 c = omega (arith, pow-mono (c .before .before .before .before .pre .0 .few))
 
-grown-to-requires : tie.Need-grown-to-requires
-grown-to-requires c κs = search needs
+frame-or-part-requires : tie.Need-frame-or-part-requires
+frame-or-part-requires c κs = search needs
 
 returns-3 : tie.Need-returns-3
 unfolding takeBit
@@ -37,8 +37,8 @@ take-bit-spec =
     (tie.spec
     returns
     returns-2
-    add-grown-to
-    mul-grown-to
-    add-grown-to-2
-    grown-to-requires
+    add-frame-or-part
+    mul-frame-or-part
+    add-frame-or-part-2
+    frame-or-part-requires
     returns-3)

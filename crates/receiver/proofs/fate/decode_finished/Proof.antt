@@ -1,5 +1,5 @@
 -- `receiver::fate::decode_finished` meets its contract: each arm lends the columns of its kind. Assumes nothing.
-use Rattle.receiver.specs.Fate.{decodedFrame}
+use Rattle.receiver.specs.Fate.{finishedAnswer}
 use borrow.Author.Needs.{needs}
 use Rattle.receiver.proofs.fate.decode_finished.Statement.{statement}
 use Rattle.receiver.proofs.fate.decode_finished.Tie as tie
@@ -35,11 +35,11 @@ answer-to-requires-2 : tie.Need-answer-to-requires-2
 answer-to-requires-2 c κs = search needs
 
 returns : tie.Need-returns
-unfolding decodedFrame
+unfolding finishedAnswer
 returns c = rw (c .answer-to .ensures, c .before .judge .ensures, c .before .before .before .enum-told .given .1, c .before .before .before .before .before .column-table .ensures)
 
 returns-2 : tie.Need-returns-2
-unfolding decodedFrame
+unfolding finishedAnswer
 returns-2 c = rw (c .answer-to2 .ensures, c .before .judge2 .ensures, c .before .before .before .enum-told2 .given .1, c .before .before .before .before .before .column-table .ensures)
 
 pub decode-finished-spec : {M : Type 1} → statement M

@@ -5,26 +5,26 @@ use borrow.Author.Needs.{needs}
 use Rattle.receiver.proofs.fate.fate_of.Statement.{statement}
 use Rattle.receiver.proofs.fate.fate_of.Tie as tie
 
-lost-row-requires : tie.Need-lost-row-requires
-lost-row-requires c κs = search needs
+double-error-row-requires : tie.Need-double-error-row-requires
+double-error-row-requires c κs = search needs
 
 returns : tie.Need-returns
 unfolding fate
-returns c = rw (c .lost-row .ensures) (search picks)
+returns c = rw (c .double-error-row .ensures) (search picks)
 
-lost-row-requires-2 : tie.Need-lost-row-requires-2
-lost-row-requires-2 c κs = search needs
+double-error-row-requires-2 : tie.Need-double-error-row-requires-2
+double-error-row-requires-2 c κs = search needs
 
 returns-2 : tie.Need-returns-2
 unfolding fate
-returns-2 c = rw (c .lost-row2 .ensures) (search picks)
+returns-2 c = rw (c .double-error-row2 .ensures) (search picks)
 
-lost-row-requires-3 : tie.Need-lost-row-requires-3
-lost-row-requires-3 c κs = search needs
+double-error-row-requires-3 : tie.Need-double-error-row-requires-3
+double-error-row-requires-3 c κs = search needs
 
 returns-3 : tie.Need-returns-3
 unfolding fate
-returns-3 c = rw (c .lost-row3 .ensures) (search picks)
+returns-3 c = rw (c .double-error-row3 .ensures) (search picks)
 
 enum-told : tie.Need-enum-told
 enum-told c = search needs
@@ -52,11 +52,11 @@ pub fate-of-spec : {M : Type 1} → statement M
 fate-of-spec =
     tie.close
     (tie.spec
-    lost-row-requires
+    double-error-row-requires
     returns
-    lost-row-requires-2
+    double-error-row-requires-2
     returns-2
-    lost-row-requires-3
+    double-error-row-requires-3
     returns-3
     enum-told
     clear-counters-requires

@@ -19,8 +19,8 @@ returns-2 : tie.Need-returns-2
 unfolding busStep
 returns-2 c = search picks
 
-silent-bus-requires : tie.Need-silent-bus-requires
-silent-bus-requires c κs = search needs
+no-strobe-requires : tie.Need-no-strobe-requires
+no-strobe-requires c κs = search needs
 
 returns-3 : tie.Need-returns-3
 unfolding busStep
@@ -34,5 +34,5 @@ bus-step-spec =
     returns
     start-sequence-requires
     returns-2
-    silent-bus-requires
+    no-strobe-requires
     returns-3)

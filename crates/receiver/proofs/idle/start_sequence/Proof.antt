@@ -20,8 +20,8 @@ returns-3 : tie.Need-returns-3
 unfolding started
 returns-3 c = search picks
 
-silent-bus-requires : tie.Need-silent-bus-requires
-silent-bus-requires c κs = search needs
+no-strobe-requires : tie.Need-no-strobe-requires
+no-strobe-requires c κs = search needs
 
 returns-4 : tie.Need-returns-4
 unfolding started
@@ -29,4 +29,4 @@ returns-4 c = search picks
 
 pub start-sequence-spec : {M : Type 1} → statement M
 start-sequence-spec =
-    tie.close (tie.spec returns cast-t7 returns-2 returns-3 silent-bus-requires returns-4)
+    tie.close (tie.spec returns cast-t7 returns-2 returns-3 no-strobe-requires returns-4)

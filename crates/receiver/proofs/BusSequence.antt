@@ -1,0 +1,111 @@
+-- What the bus shows and what is left of a sequence, from the state before the clock. Assumes nothing.
+use mathlib.Core.Path.{_≡_, refl, sym, ap, _∙_}
+use mathlib.Core.Logic.{_≢_}
+use Prim.Native.Nat.{ℕ, _%_, _^_, _<_}
+use native.Mathlib.Omega.{arith}
+use borrow.Author.Tests.{eq-eqb, ne-eqb, lt-ltb}
+use lib.Dec.{eqb, ltb}
+use Rattle.laws.proofs.Rules.{picked}
+use Rattle.frame.specs.declared.Kind.{Kind}
+use Rattle.frame.specs.declared.Answer.{Answer}
+use Rattle.receiver_state.specs.declared.Core.{Core}
+use Rattle.receiver_state.specs.State.{wordsLeft, noSequence}
+use Rattle.receiver.specs.declared.Bus.{Bus}
+use Rattle.receiver.specs.declared.Outputs.{Outputs}
+use Rattle.receiver.specs.declared.Row.{Row}
+use Rattle.receiver.specs.IdleClock.{bus, noStrobe, eventLow, eventHigh, continued, started, busStep, idleClock}
+use Rattle.receiver.specs.Fate.{doubleUp, isShort, foreign, countErrors, fate}
+use Rattle.receiver.specs.StepLaws.{modeOf, StartsIn, Shows, BusShows, SequenceLeft}
+
+module _ (core : Core) (trigger : ℕ) where
+  -- ---- the step, by what is left and what comes
+
+  two-left : core .sequence .left ≡ 2 → busStep core trigger ≡ bus (wordsLeft 1 (core .sequence .event)) 2 (eventLow (core .sequence .event)) trigger
+  unfolding busStep continued
+  two-left e = rw e refl
+
+  one-left : core .sequence .left ≡ 1 → busStep core trigger ≡ bus noSequence 3 (eventHigh (core .sequence .event)) trigger
+  unfolding busStep continued
+  one-left e = rw e refl
+
+  starts : core .sequence .left ≡ 0 → trigger ≡ 1 → busStep core trigger ≡ started (core .counters) (modeOf core)
+  unfolding busStep
+  starts e t = rw (e, t) refl
+
+  starts-in : (mode : ℕ) → StartsIn core trigger mode → busStep core trigger ≡ started (core .counters) mode
+  starts-in mode s = starts (s .no-words) (s .triggered) ∙ ap (started (core .counters)) (s .in-mode)
+
+  no-start : core .sequence .left ≡ 0 → trigger ≡ 0 → busStep core trigger ≡ noStrobe
+  unfolding busStep
+  no-start e t = rw (e, t) refl
+
+  missed : 0 < core .sequence .left → busStep core trigger .missed ≡ trigger
+  unfolding busStep continued
+  missed h = rw (lt-ltb _ _ h) (picked (λ (b : Bus). b .missed ≡ trigger) (eqb (core .sequence .left) 2) refl refl)
+
+  not-missed : core .sequence .left ≡ 0 → busStep core trigger .missed ≡ 0
+  unfolding busStep started
+  not-missed e =
+      rw e
+      (picked Not (eqb trigger 1)
+      (picked Not (eqb (modeOf core) 1) refl (picked Not (eqb (modeOf core) 2) refl (picked Not (eqb (modeOf core) 3) refl refl)))
+      refl)
+    where
+      Not : Bus → Type 0
+      Not b = b .missed ≡ 0
+
+  -- ---- shown
+
+  shows : (b : Bus) → busStep core trigger ≡ b → Shows (idleClock core trigger .outputs) (b .strobe) (b .number)
+  unfolding idleClock
+  shows b e = record { strobe-is = ap (λ (x : Bus). x .strobe) e; number-is = ap (λ (x : Bus). x .number) e }
+
+  pub idle-shows : BusShows core trigger (idleClock core trigger .outputs)
+  unfolding started idleClock
+  idle-shows = record {
+    trigger-shown = refl;
+    missed-if-running = missed;
+    not-missed = not-missed;
+    event-low-next = λ e. shows _ (two-left e);
+    event-high-next = λ e. shows _ (one-left e);
+    mode-0 = λ s. shows _ (starts-in 0 s);
+    mode-1 = λ s. shows _ (starts-in 1 s);
+    mode-2 = λ s. shows _ (starts-in 2 s);
+    mode-3 = λ s. shows _ (starts-in 3 s);
+    nothing = λ e t. shows _ (no-start e t);
+  }
+
+  -- ---- left
+
+  left : (b : Bus) → busStep core trigger ≡ b → idleClock core trigger .core .sequence ≡ b .sequence
+  unfolding idleClock
+  left b e = ap (λ (x : Bus). x .sequence) e
+
+  pub idle-left : SequenceLeft core trigger (idleClock core trigger .core .sequence)
+  unfolding started
+  idle-left = record {
+    one-more = λ e. left _ (two-left e);
+    no-more = λ e. left _ (one-left e);
+    from-mode-0 = λ s. left _ (starts-in 0 s);
+    from-mode-1 = λ s. left _ (starts-in 1 s);
+    from-mode-2 = λ s. left _ (starts-in 2 s);
+    from-mode-3 = λ s. left _ (starts-in 3 s);
+    still-none = λ e t. left _ (no-start e t);
+  }
+
+-- but for RESET, no row touches the sequence
+pub fate-sequence : (kind : Kind) (frame : Answer) (core : Core) → fate kind frame (countErrors frame core) .verdict ≢ 3
+    → fate kind frame (countErrors frame core) .core .sequence ≡ core .sequence
+unfolding fate countErrors doubleUp
+fate-sequence kind frame core =
+    picked Kept (eqb (frame .verdict) 7) (λ n. refl)
+    (picked Kept (eqb (frame .verdict) 8) (λ n. refl)
+    (picked Kept (eqb (frame .verdict) 9) (λ n. refl)
+    (picked Kept (isShort kind) (λ n. refl)
+    (picked Kept (foreign (frame .fields .address) (core .ids .id)) (λ n. refl)
+    (picked Kept (eqb (frame .fields .e) 1) (λ n. refl)
+    (picked Kept (ltb (frame .fields .sub) 4) (λ n. refl)
+    (picked Kept (eqb (frame .fields .sub) 6) (λ n. absurd (n refl)) (λ n. refl))))))))
+  where
+    Kept : Row → Type 0
+    Kept done = done .verdict ≢ 3 → done .core .sequence ≡ core .sequence
