@@ -1,9 +1,11 @@
-// Document 01's trigger example, and what triggers, clears and RESET do to a sequence on the bus.
+// Document 01's trigger example, and what triggers, wraps, clears, a control write and RESET do to a
+// sequence on the bus.
 // Of each clock that shows something, it prints the number of the clock, then what it shows.
 use frame::encode_long;
 use frame::encode_short;
 use receiver::Outputs;
 use receiver::clock;
+use receiver_state::Counters;
 use receiver_state::Receiver;
 use receiver_state::fresh;
 
@@ -112,32 +114,75 @@ fn modes() {
     triggered(in_mode(3), 0x16);
 }
 
-// A frame's last clocks, the stop bit's included, under triggers.
-fn frames() {
-    let both = encode_short(3);
+// A fresh receiver but for both counters, which are at their last numbers.
+fn before_wraps() -> Receiver {
+    let start = fresh(5, 5);
+    let counters = Counters {
+        bunch: 4095,
+        event: 0xFF_FFFF,
+    };
+    let mut core = start.receiver.core;
+    core.counters = counters;
+    let mut receiver = start.receiver;
+    receiver.core = core;
+    receiver
+}
+
+fn wraps() {
     io::write_all(
         1,
-        b"\nmode 3, a broadcast that clears both counters, triggers on its first and last clock\n",
+        b"\nmode 3, from bunch 4095 and event 16777215, triggers on clocks 1 and 4\n",
     );
-    let cleared = run(in_mode(3), 0x8001, both.number, FIRST_OF_SHORT);
-    print_state(cleared);
-    triggered(cleared, 0);
-    let reset = encode_long(5, 0, 6, 0);
+    triggered(before_wraps(), 0x12);
+}
+
+// A broadcast in mode 3, with triggers on its first and last clock.
+fn broadcast(data: u8) {
+    let sent = encode_short(data);
+    let after = run(in_mode(3), 0x8001, sent.number, FIRST_OF_SHORT);
+    print_state(after);
+    triggered(after, 0);
+}
+
+fn broadcasts() {
+    io::write_all(
+        1,
+        b"\nmode 3, broadcast 1 clears the bunch counter, triggers on its first and last clock\n",
+    );
+    broadcast(1);
+    io::write_all(
+        1,
+        b"\nmode 3, broadcast 2 clears the event counter, triggers on its first and last clock\n",
+    );
+    broadcast(2);
+    io::write_all(
+        1,
+        b"\nmode 3, broadcast 3 clears both counters, triggers on its first and last clock\n",
+    );
+    broadcast(3);
+}
+
+// A long frame for this receiver in mode 3, then five clocks.
+fn addressed(sub: u8, data: u8, triggers: u64, later: u64) {
+    let sent = encode_long(5, 0, sub, data);
+    let after = run(in_mode(3), triggers, sent.number, FIRST_OF_LONG);
+    print_state(after);
+    triggered(after, later);
+}
+
+fn frames() {
     io::write_all(
         1,
         b"\nmode 3, RESET, trigger on the clock before its last\n",
     );
-    let fresh_again = run(in_mode(3), 0x0002, reset.number, FIRST_OF_LONG);
-    print_state(fresh_again);
-    triggered(fresh_again, 0);
-    let to_none = encode_long(5, 0, 3, 0);
+    addressed(6, 0, 0x0002, 0);
+    io::write_all(1, b"\nmode 3, RESET, trigger on its last clock\n");
+    addressed(6, 0, 0x0001, 0);
     io::write_all(
         1,
         b"\nmode 3, control write of 0, trigger on the clock before its last; later one more\n",
     );
-    let written = run(in_mode(3), 0x0002, to_none.number, FIRST_OF_LONG);
-    print_state(written);
-    triggered(written, 0x02);
+    addressed(3, 0, 0x0002, 0x02);
 }
 
 fn main() {
@@ -145,5 +190,7 @@ fn main() {
     io::write_all(1, b"document 01: triggers on clocks 1, 2 and 4\n");
     triggered(start.receiver, 0x1A);
     modes();
+    wraps();
+    broadcasts();
     frames();
 }
