@@ -4,7 +4,6 @@ use mathlib.Core.Logic.{_≢_}
 use mathlib.Core.Bool.{cond}
 use Prim.Native.Nat.{ℕ, zero, suc, _+_, _/_, _%_, _^_, _<_}
 use native.Mathlib.Omega.{arith}
-use borrow.Author.Tests.{eq-eqb}
 use lib.Dec.{eqb, ltb}
 use lib.Pow.{field}
 use Rattle.laws.proofs.Rules.{picked}
@@ -16,15 +15,12 @@ use Rattle.frame.specs.declared.Answer.{Answer}
 use Rattle.frame.specs.Decode.{bareAnswer, goodAnswer, answerTo}
 use Rattle.receiver_state.specs.declared.Counters.{Counters}
 use Rattle.receiver_state.specs.declared.Core.{Core}
-use Rattle.receiver_state.specs.declared.Receiver.{Receiver}
-use Rattle.receiver_state.specs.declared.Held.{Held}
 use Rattle.receiver_state.specs.State.{counters}
 use Rattle.receiver_state.specs.WellFormed.{CountersFacts}
 use Rattle.receiver.specs.declared.Clocked.{Clocked}
 use Rattle.receiver.specs.declared.Row.{Row}
 use Rattle.receiver.specs.IdleClock.{countClock, idleClock}
 use Rattle.receiver.specs.Fate.{row, doubleUp, cleared, foreign, fate, countErrors, shown, finished}
-use Rattle.receiver.specs.Clock.{clockedAnswer}
 use Rattle.receiver.specs.StepLaws.{CountersAdvance}
 
 -- the counters against those of the idle clock

@@ -1,20 +1,13 @@
 -- What the bus shows and what is left of a sequence, from the state before the clock. Assumes nothing.
-use mathlib.Core.Path.{_≡_, refl, sym, ap, _∙_}
-use mathlib.Core.Logic.{_≢_}
-use Prim.Native.Nat.{ℕ, _%_, _^_, _<_}
-use native.Mathlib.Omega.{arith}
-use borrow.Author.Tests.{eq-eqb, ne-eqb, lt-ltb}
-use lib.Dec.{eqb, ltb}
+use mathlib.Core.Path.{_≡_, refl, ap, _∙_}
+use Prim.Native.Nat.{ℕ, _<_}
+use borrow.Author.Tests.{lt-ltb}
+use lib.Dec.{eqb}
 use Rattle.laws.proofs.Rules.{picked}
-use Rattle.frame.specs.declared.Kind.{Kind}
-use Rattle.frame.specs.declared.Answer.{Answer}
 use Rattle.receiver_state.specs.declared.Core.{Core}
 use Rattle.receiver_state.specs.State.{wordsLeft, noSequence}
 use Rattle.receiver.specs.declared.Bus.{Bus}
-use Rattle.receiver.specs.declared.Outputs.{Outputs}
-use Rattle.receiver.specs.declared.Row.{Row}
 use Rattle.receiver.specs.IdleClock.{bus, noStrobe, eventLow, eventHigh, continued, started, busStep, idleClock}
-use Rattle.receiver.specs.Fate.{doubleUp, isShort, foreign, countErrors, fate}
 use Rattle.receiver.specs.StepLaws.{modeOf, StartsIn, Shows, BusShows, SequenceLeft}
 
 module _ (core : Core) (trigger : ℕ) where
@@ -92,20 +85,3 @@ module _ (core : Core) (trigger : ℕ) where
     from-mode-3 = λ s. left _ (starts-in 3 s);
     still-none = λ e t. left _ (no-start e t);
   }
-
--- but for RESET, no row touches the sequence
-pub fate-sequence : (kind : Kind) (frame : Answer) (core : Core) → fate kind frame (countErrors frame core) .verdict ≢ 3
-    → fate kind frame (countErrors frame core) .core .sequence ≡ core .sequence
-unfolding fate countErrors doubleUp
-fate-sequence kind frame core =
-    picked Kept (eqb (frame .verdict) 7) (λ n. refl)
-    (picked Kept (eqb (frame .verdict) 8) (λ n. refl)
-    (picked Kept (eqb (frame .verdict) 9) (λ n. refl)
-    (picked Kept (isShort kind) (λ n. refl)
-    (picked Kept (foreign (frame .fields .address) (core .ids .id)) (λ n. refl)
-    (picked Kept (eqb (frame .fields .e) 1) (λ n. refl)
-    (picked Kept (ltb (frame .fields .sub) 4) (λ n. refl)
-    (picked Kept (eqb (frame .fields .sub) 6) (λ n. absurd (n refl)) (λ n. refl))))))))
-  where
-    Kept : Row → Type 0
-    Kept done = done .verdict ≢ 3 → done .core .sequence ≡ core .sequence

@@ -6,12 +6,11 @@ use mathlib.Core.List.{List}
 use Prim.Native.Nat.{ℕ, zero, suc, _*_, _^_, _<_, _≤_}
 use native.Mathlib.Omega.{arith}
 use borrow.Author.Tests.{lt-ltb, le-ltb, ltb-false}
-use lib.Dec.{eqb, ltb}
-use Rattle.laws.proofs.Rules.{picked, picked-by}
+use lib.Dec.{ltb}
+use Rattle.laws.proofs.Rules.{picked-by}
 use Rattle.hamming.proofs.Uses.{short-columns-good, long-columns-good}
 use Rattle.frame.specs.declared.Kind.{Kind}
 use Rattle.frame.specs.declared.Kind.the-variants.{Short, Long}
-use Rattle.frame.specs.declared.Answer.{Answer}
 use Rattle.frame.specs.Decode.{judged}
 use Rattle.frame.specs.Frames.{FrameFacts}
 use Rattle.frame.proofs.Frames.{frame-theorem}
@@ -25,12 +24,11 @@ use Rattle.receiver_state.specs.WellFormed.{wellFormed, HeldFacts}
 use Rattle.receiver_state.proofs.WellFormed.{receiver-facts, receiver-ok}
 use Rattle.receiver.specs.declared.Outputs.{Outputs}
 use Rattle.receiver.specs.declared.ClockAnswer.{ClockAnswer}
-use Rattle.receiver.specs.declared.Row.{Row}
 use Rattle.receiver.specs.declared.Taken.{Taken}
 use Rattle.receiver.specs.declared.Taken.the-variants.{Unfinished, Finished}
 use Rattle.receiver.specs.TakeBit.{takeBit, heldAfter, Waits}
 use Rattle.receiver.specs.IdleClock.{idleClock}
-use Rattle.receiver.specs.Fate.{columnsOf, isShort, foreign, fate, finishedAnswer, countErrors, shows, finished, applyFrame}
+use Rattle.receiver.specs.Fate.{columnsOf, finishedAnswer, countErrors, shows, finished, applyFrame}
 use Rattle.receiver.specs.Clock.{clockedAnswer, stepAnswer, refusedClock, clockAnswer}
 use Rattle.receiver.specs.Laws as laws
 use Rattle.receiver.specs.StepLaws.{Stands, Shows, BusShows, SequenceLeft, CountersAdvance}
@@ -38,10 +36,11 @@ use Rattle.receiver.specs.FrameLaws.{ErrorsMove, SettingsMove}
 use Rattle.receiver.specs.Laws.{Accepted, GoodTables, ClockTheorem, ReceiverLaws}
 use Rattle.receiver.proofs.TakeBit.{TakenFacts, taken-facts}
 use Rattle.receiver.proofs.Keep.{step-facts}
-use Rattle.receiver.proofs.BusSequence.{idle-shows, idle-left, fate-sequence}
+use Rattle.receiver.proofs.Rows.{row-facts}
+use Rattle.receiver.proofs.BusSequence.{idle-shows, idle-left}
 use Rattle.receiver.proofs.Advance.{idle-verdict, idle-goes, finished-goes, advance}
 use Rattle.receiver.proofs.Counts.{finished-moves}
-use Rattle.receiver.proofs.Stored.{finished-settings, fate-ids}
+use Rattle.receiver.proofs.Stored.{finished-settings}
 use Rattle.receiver.proofs.Verdicts.{finished-answer, shows-frame}
 use Rattle.receiver.proofs.Executed.{executed-law}
 
@@ -63,38 +62,6 @@ waits-law r e = (
 
 finishes-frames : laws.FinishesFrames
 finishes-frames r bit kind number e b f = subst TakenFacts f (taken-facts (r .held) bit (receiver-facts r e .of-held) b)
-
--- ---- the rows
-
-fate-not-zero : (kind : Kind) (frame : Answer) (core : Core) → fate kind frame core .verdict ≢ 0
-unfolding fate
-fate-not-zero kind frame core =
-    picked Some (eqb (frame .verdict) 7) (λ z. omega arith)
-    (picked Some (eqb (frame .verdict) 8) (λ z. omega arith)
-    (picked Some (eqb (frame .verdict) 9) (λ z. omega arith)
-    (picked Some (isShort kind) (λ z. omega arith)
-    (picked Some (foreign (frame .fields .address) (core .ids .id)) (λ z. omega arith)
-    (picked Some (eqb (frame .fields .e) 1) (λ z. omega arith)
-    (picked Some (ltb (frame .fields .sub) 4) (λ z. omega arith)
-    (picked Some (eqb (frame .fields .sub) 6) (λ z. omega arith) (λ z. omega arith))))))))
-  where
-    Some : Row → Type 0
-    Some done = done .verdict ≢ 0
-
-fate-reset : (kind : Kind) (frame : Answer) (core : Core) → fate kind frame core .verdict ≡ 3 → fate kind frame core .core ≡ freshCore (core .ids)
-unfolding fate
-fate-reset kind frame core =
-    picked Reset (eqb (frame .verdict) 7) (λ z. absurd (omega arith))
-    (picked Reset (eqb (frame .verdict) 8) (λ z. absurd (omega arith))
-    (picked Reset (eqb (frame .verdict) 9) (λ z. absurd (omega arith))
-    (picked Reset (isShort kind) (λ z. absurd (omega arith))
-    (picked Reset (foreign (frame .fields .address) (core .ids .id)) (λ z. absurd (omega arith))
-    (picked Reset (eqb (frame .fields .e) 1) (λ z. absurd (omega arith))
-    (picked Reset (ltb (frame .fields .sub) 4) (λ z. absurd (omega arith))
-    (picked Reset (eqb (frame .fields .sub) 6) (λ z. refl) (λ z. absurd (omega arith)))))))))
-  where
-    Reset : Row → Type 0
-    Reset done = done .verdict ≡ 3 → done .core ≡ freshCore (core .ids)
 
 -- what holds of a bus holds of outputs that show the same
 same-bus : (core : Core) (trigger : ℕ) (shown idle : Outputs) → shows (shown .verdict) (shown .corrected) (shown .word) idle ≡ shown
@@ -218,7 +185,7 @@ module _ (columns : Kind → List ℕ) where
       rw (accepted r trigger bit h)
       (by-taken (λ taken (a : ClockAnswer). (a .outputs .verdict ≡ 0) ↔ ((kind : Kind) (number : ℕ) → taken ≡ Finished kind number → ⊥)) r trigger bit
       (λ held. (λ e kind number f. subst IsUnfinished f tt, λ f. refl))
-      (λ kind number. (λ e. absurd (fate-not-zero kind _ _ e), λ f. absurd (f kind number refl))))
+      (λ kind number. (λ e. absurd (row-facts kind (finishedAnswer columns kind number) (idleClock (r .core) trigger .core) .not-zero e), λ f. absurd (f kind number refl))))
 
   no-frame-law : laws.NoFrameLaw columns
   unfolding stepAnswer
@@ -263,7 +230,7 @@ module _ (columns : Kind → List ℕ) where
       rw (accepted r trigger bit h)
       (by-taken (λ taken (a : ClockAnswer). a .outputs .verdict ≢ 3 → SequenceLeft (r .core) trigger (a .receiver .core .sequence)) r trigger bit
       (λ held n. idle-left (r .core) trigger)
-      (λ kind number n. rw (fate-sequence kind (finishedAnswer columns kind number) (idleClock (r .core) trigger .core) n) (idle-left (r .core) trigger)))
+      (λ kind number n. rw (row-facts kind (finishedAnswer columns kind number) (idleClock (r .core) trigger .core) .sequence-stays n) (idle-left (r .core) trigger)))
 
   advance-law : laws.AdvanceLaw columns
   unfolding finishedAnswer
@@ -304,7 +271,7 @@ module _ (columns : Kind → List ℕ) where
       by-refusal Reset r trigger bit
       (λ h. by-taken (λ taken a. Reset a) r trigger bit
       (λ held e. absurd (omega arith))
-      (λ kind number e. ap (λ (core : Core). receiver core nothingHeld) (fate-reset kind _ _ e)))
+      (λ kind number e. ap (λ (core : Core). receiver core nothingHeld) (row-facts kind (finishedAnswer columns kind number) (idleClock (r .core) trigger .core) .reset e)))
       (λ n m e. absurd (omega arith))
     where
       Reset : ClockAnswer → Type 0
@@ -316,7 +283,7 @@ module _ (columns : Kind → List ℕ) where
       by-refusal (λ (a : ClockAnswer). a .receiver .core .ids ≡ r .core .ids) r trigger bit
       (λ h. by-taken (λ taken (a : ClockAnswer). a .receiver .core .ids ≡ r .core .ids) r trigger bit
       (λ held. refl)
-      (λ kind number. fate-ids kind (finishedAnswer columns kind number) (idleClock (r .core) trigger .core)))
+      (λ kind number. row-facts kind (finishedAnswer columns kind number) (idleClock (r .core) trigger .core) .ids-stay))
       (λ n m. refl)
 
   executed-exactly : ((kind : Kind) → FrameFacts (columns kind) kind) → laws.ExecutedExactly columns

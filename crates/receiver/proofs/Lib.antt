@@ -1,5 +1,6 @@
 pub mod TakeBit
 pub mod Keep
+mod Rows
 mod BusSequence
 mod Advance
 mod Counts

@@ -1,7 +1,7 @@
--- What a finished frame does to the settings and the IDs. Assumes nothing.
+-- What a finished frame does to the settings. Assumes nothing.
 use mathlib.Core.Path.{_≡_, refl, sym, ap}
 use mathlib.Core.Logic.{_≢_}
-use mathlib.Core.Bool.{Bool, true, false, cond}
+use mathlib.Core.Bool.{false, cond}
 use Prim.Native.Nat.{ℕ, zero, suc, _/_, _%_, _^_, _<_}
 use native.Mathlib.Omega.{arith}
 use borrow.Author.Tests.{ne-eqb, eqb-false, ltb-true}
@@ -13,13 +13,12 @@ use Rattle.frame.specs.declared.Judged.{Judged}
 use Rattle.frame.specs.declared.Judged.the-variants.{StopZero, Uncorrectable, FixedZero, Good}
 use Rattle.frame.specs.declared.Answer.{Answer}
 use Rattle.frame.specs.Decode.{bareAnswer, goodAnswer, answerTo}
-use Rattle.receiver_state.specs.declared.Ids.{Ids}
 use Rattle.receiver_state.specs.declared.Settings.{Settings}
 use Rattle.receiver_state.specs.declared.Core.{Core}
 use Rattle.receiver_state.specs.State.{withSettings, freshCore}
 use Rattle.receiver.specs.declared.Clocked.{Clocked}
 use Rattle.receiver.specs.declared.Row.{Row}
-use Rattle.receiver.specs.Fate.{row, doubleUp, stored, isShort, foreign, fate, countErrors, shown, finished}
+use Rattle.receiver.specs.Fate.{row, doubleUp, stored, foreign, fate, countErrors, shown, finished}
 use Rattle.receiver.specs.FrameLaws.{registerOf, SettingsMove}
 
 abbrev Moves : Settings → Clocked → Type 0
@@ -96,19 +95,3 @@ finished-settings Long (Good word flag wrong) idle =
     (picked After (eqb (frame .fields .e) 1) (kept-settings _ frame core idle refl refl)
     (picked-by After (ltb (frame .fields .sub) 4) (λ h. stored-settings (cond flag 1 0) word core idle refl (ltb-true (word / 2 ^ 8 % 2 ^ 8) 4 h))
     (λ h. picked After (eqb (frame .fields .sub) 6) (reset-settings frame (freshCore (core .ids)) idle) (kept-settings _ frame core idle refl refl))))
-
--- ---- the IDs
-
-pub fate-ids : (kind : Kind) (frame : Answer) (core : Core) → fate kind frame (countErrors frame core) .core .ids ≡ core .ids
-unfolding fate countErrors doubleUp
-fate-ids kind frame core =
-    picked Same (eqb (frame .verdict) 7) refl
-    (picked Same (eqb (frame .verdict) 8) refl
-    (picked Same (eqb (frame .verdict) 9) refl
-    (picked Same (isShort kind) refl
-    (picked Same (foreign (frame .fields .address) (core .ids .id)) refl
-    (picked Same (eqb (frame .fields .e) 1) refl
-    (picked Same (ltb (frame .fields .sub) 4) refl (picked Same (eqb (frame .fields .sub) 6) refl refl)))))))
-  where
-    Same : Row → Type 0
-    Same done = done .core .ids ≡ core .ids

@@ -14,7 +14,6 @@ use Rattle.receiver_state.specs.declared.Held.{Held}
 use Rattle.receiver_state.specs.declared.Receiver.{Receiver}
 use Rattle.receiver_state.specs.State.{nothingHeld, freshState}
 use Rattle.receiver_state.specs.WellFormed.{wellFormed}
-use Rattle.receiver.specs.declared.ClockAnswer.{ClockAnswer}
 use Rattle.receiver.specs.declared.Taken.the-variants.{Unfinished, Finished}
 use Rattle.receiver.specs.TakeBit.{takeBit, Waits}
 use Rattle.receiver.specs.IdleClock.{idleClock}
