@@ -7,36 +7,36 @@ use Rattle.laws.proofs.Rules.{picked}
 use Rattle.receiver_state.specs.declared.Core.{Core}
 use Rattle.receiver_state.specs.State.{wordsLeft, noSequence}
 use Rattle.receiver.specs.declared.Bus.{Bus}
-use Rattle.receiver.specs.IdleClock.{bus, noStrobe, eventLow, eventHigh, continued, started, busStep, idleClock}
-use Rattle.receiver.specs.StepLaws.{modeOf, StartsIn, Shows, BusShows, SequenceLeft}
+use Rattle.receiver.specs.IdleClock.{bus, noStrobe, eventLow, eventHigh, continued, started, busStep, busOf, idleClock}
+use Rattle.receiver.specs.StepLaws.{modeOf, StartsIn, Shows, BusShows, LeftIs, SequenceLeft}
 
 module _ (core : Core) (trigger : ℕ) where
   -- ---- the step, by what is left and what comes
 
-  two-left : core .sequence .left ≡ 2 → busStep core trigger ≡ bus (wordsLeft 1 (core .sequence .event)) 2 (eventLow (core .sequence .event)) trigger
+  two-left : core .sequence .left ≡ 2 → busOf core trigger ≡ bus (wordsLeft 1 (core .sequence .event)) 2 (eventLow (core .sequence .event)) trigger
   unfolding busStep continued
   two-left e = rw e refl
 
-  one-left : core .sequence .left ≡ 1 → busStep core trigger ≡ bus noSequence 3 (eventHigh (core .sequence .event)) trigger
+  one-left : core .sequence .left ≡ 1 → busOf core trigger ≡ bus noSequence 3 (eventHigh (core .sequence .event)) trigger
   unfolding busStep continued
   one-left e = rw e refl
 
-  starts : core .sequence .left ≡ 0 → trigger ≡ 1 → busStep core trigger ≡ started (core .counters) (modeOf core)
+  starts : core .sequence .left ≡ 0 → trigger ≡ 1 → busOf core trigger ≡ started (core .counters) (modeOf core)
   unfolding busStep
   starts e t = rw (e, t) refl
 
-  starts-in : (mode : ℕ) → StartsIn core trigger mode → busStep core trigger ≡ started (core .counters) mode
+  starts-in : (mode : ℕ) → StartsIn core trigger mode → busOf core trigger ≡ started (core .counters) mode
   starts-in mode s = starts (s .no-words) (s .triggered) ∙ ap (started (core .counters)) (s .in-mode)
 
-  no-start : core .sequence .left ≡ 0 → trigger ≡ 0 → busStep core trigger ≡ noStrobe
+  no-start : core .sequence .left ≡ 0 → trigger ≡ 0 → busOf core trigger ≡ noStrobe
   unfolding busStep
   no-start e t = rw (e, t) refl
 
-  missed : 0 < core .sequence .left → busStep core trigger .missed ≡ trigger
+  missed : 0 < core .sequence .left → busOf core trigger .missed ≡ trigger
   unfolding busStep continued
   missed h = rw (lt-ltb _ _ h) (picked (λ (b : Bus). b .missed ≡ trigger) (eqb (core .sequence .left) 2) refl refl)
 
-  not-missed : core .sequence .left ≡ 0 → busStep core trigger .missed ≡ 0
+  not-missed : core .sequence .left ≡ 0 → busOf core trigger .missed ≡ 0
   unfolding busStep started
   not-missed e =
       rw e
@@ -49,7 +49,7 @@ module _ (core : Core) (trigger : ℕ) where
 
   -- ---- shown
 
-  shows : (b : Bus) → busStep core trigger ≡ b → Shows (idleClock core trigger .outputs) (b .strobe) (b .number)
+  shows : (b : Bus) → busOf core trigger ≡ b → Shows (idleClock core trigger .outputs) (b .strobe) (b .number)
   unfolding idleClock
   shows b e = record { strobe-is = ap (λ (x : Bus). x .strobe) e; number-is = ap (λ (x : Bus). x .number) e }
 
@@ -70,9 +70,9 @@ module _ (core : Core) (trigger : ℕ) where
 
   -- ---- left
 
-  left : (b : Bus) → busStep core trigger ≡ b → idleClock core trigger .core .sequence ≡ b .sequence
+  left : (b : Bus) → busOf core trigger ≡ b → LeftIs (idleClock core trigger .core .sequence) (b .sequence .left) (b .sequence .event)
   unfolding idleClock
-  left b e = ap (λ (x : Bus). x .sequence) e
+  left b e = record { words-are = ap (λ (x : Bus). x .sequence .left) e; event-is = ap (λ (x : Bus). x .sequence .event) e }
 
   pub idle-left : SequenceLeft core trigger (idleClock core trigger .core .sequence)
   unfolding started

@@ -21,7 +21,7 @@ use Rattle.receiver.specs.declared.Row.{Row}
 use Rattle.receiver.specs.declared.Taken.{Taken}
 use Rattle.receiver.specs.declared.Taken.the-variants.{Unfinished, Finished}
 use Rattle.receiver.specs.TakeBit.{takeBit, heldAfter}
-use Rattle.receiver.specs.IdleClock.{continued, started, busStep, countClock, idleClock}
+use Rattle.receiver.specs.IdleClock.{continued, started, busStep, busOf, countClock, idleClock}
 use Rattle.receiver.specs.Fate.{doubleUp, cleared, stored, isShort, foreign, fate, countErrors, finishedAnswer, finished, applyFrame}
 use Rattle.receiver.specs.Clock.{stepAnswer}
 use Rattle.receiver.proofs.TakeBit.{TakenFacts, taken-facts}
@@ -37,7 +37,7 @@ some-left n event h k = record { few = omega arith; kept-below = k; none-kept = 
 abbrev LeftFacts : Bus → Type 0
 LeftFacts bus = SequenceFacts (bus .sequence)
 
-bus-facts : (core : Core) (trigger : ℕ) → CoreFacts core → LeftFacts (busStep core trigger)
+bus-facts : (core : Core) (trigger : ℕ) → CoreFacts core → LeftFacts (busOf core trigger)
 unfolding busStep continued started
 bus-facts core trigger f =
     picked LeftFacts (ltb 0 (core .sequence .left))
@@ -111,20 +111,20 @@ stored-facts sub byte core f =
       flag = f .flag;
     }
 
-abbrev RowFacts : Row → Type 0
-RowFacts row = CoreFacts (row .core)
+abbrev RowWellFormed : Row → Type 0
+RowWellFormed row = CoreFacts (row .core)
 
-fate-facts : (kind : Kind) (frame : Answer) (core : Core) → CoreFacts core → RowFacts (fate kind frame core)
+fate-facts : (kind : Kind) (frame : Answer) (core : Core) → CoreFacts core → RowWellFormed (fate kind frame core)
 unfolding fate
 fate-facts kind frame core f =
-    picked RowFacts (eqb (frame .verdict) 7) (up-facts core f)
-    (picked RowFacts (eqb (frame .verdict) 8) (up-facts core f)
-    (picked RowFacts (eqb (frame .verdict) 9) (up-facts core f)
-    (picked RowFacts (isShort kind) (cleared-facts _ core f)
-    (picked RowFacts (foreign (frame .fields .address) (core .ids .id)) f
-    (picked RowFacts (eqb (frame .fields .e) 1) f
-    (picked RowFacts (ltb (frame .fields .sub) 4) (stored-facts _ _ core f)
-    (picked RowFacts (eqb (frame .fields .sub) 6) (fresh-facts (core .ids) (f .of-ids) .of-core) f)))))))
+    picked RowWellFormed (eqb (frame .verdict) 7) (up-facts core f)
+    (picked RowWellFormed (eqb (frame .verdict) 8) (up-facts core f)
+    (picked RowWellFormed (eqb (frame .verdict) 9) (up-facts core f)
+    (picked RowWellFormed (isShort kind) (cleared-facts _ core f)
+    (picked RowWellFormed (foreign (frame .fields .address) (core .ids .id)) f
+    (picked RowWellFormed (eqb (frame .fields .e) 1) f
+    (picked RowWellFormed (ltb (frame .fields .sub) 4) (stored-facts _ _ core f)
+    (picked RowWellFormed (eqb (frame .fields .sub) 6) (fresh-facts (core .ids) (f .of-ids) .of-core) f)))))))
 
 -- ---- the step
 

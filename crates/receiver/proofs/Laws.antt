@@ -5,8 +5,8 @@ use mathlib.Core.Bool.{Bool, true, false, cond}
 use mathlib.Core.List.{List}
 use Prim.Native.Nat.{ℕ, zero, suc, _*_, _^_, _<_, _≤_}
 use native.Mathlib.Omega.{arith}
-use borrow.Author.Tests.{lt-ltb, le-ltb, ltb-false}
-use lib.Dec.{ltb}
+use borrow.Author.Tests.{eqb-false, lt-ltb, le-ltb, ltb-false}
+use lib.Dec.{eqb, ltb}
 use Rattle.laws.proofs.Rules.{picked-by}
 use Rattle.hamming.proofs.Uses.{short-columns-good, long-columns-good}
 use Rattle.frame.specs.declared.Kind.{Kind}
@@ -31,10 +31,11 @@ use Rattle.receiver.specs.IdleClock.{idleClock}
 use Rattle.receiver.specs.Fate.{columnsOf, finishedAnswer, countErrors, shows, finished, applyFrame}
 use Rattle.receiver.specs.Clock.{clockedAnswer, stepAnswer, refusedClock, clockAnswer}
 use Rattle.receiver.specs.Laws as laws
-use Rattle.receiver.specs.StepLaws.{Stands, Shows, BusShows, SequenceLeft, CountersAdvance}
+use Rattle.receiver.specs.StepLaws.{ShowsNothing, Stands, Shows, BusShows, SequenceLeft, CountersAdvance}
 use Rattle.receiver.specs.FrameLaws.{ErrorsMove, SettingsMove}
 use Rattle.receiver.specs.Laws.{Accepted, GoodTables, ClockTheorem, ReceiverLaws}
 use Rattle.receiver.proofs.TakeBit.{TakenFacts, taken-facts}
+use Rattle.receiver.proofs.Bits.{bit-law}
 use Rattle.receiver.proofs.Keep.{step-facts}
 use Rattle.receiver.proofs.Rows.{row-facts}
 use Rattle.receiver.proofs.BusSequence.{idle-shows, idle-left}
@@ -118,18 +119,18 @@ module _ (columns : Kind → List ℕ) where
 
   -- what holds of the step of an accepted clock, and of every refusal, holds of the clock
   by-refusal : (P : ClockAnswer → Type 0) (r : Receiver) (trigger bit : ℕ)
-      → (Accepted r trigger bit → P (stepAnswer columns r trigger bit)) → ((n : ℕ) → n ≢ 0 → P (refusedClock n r))
+      → (Accepted r trigger bit → P (stepAnswer columns r trigger bit)) → ((n : ℕ) → eqb n 0 ≡ false → P (refusedClock n r))
       → P (clockAnswer columns r trigger bit)
   unfolding clockAnswer
   by-refusal P r trigger bit step refused =
       picked-by P (wellFormed r)
-      (λ e. picked-by P (ltb 1 trigger) (λ h. refused 1 (λ z. omega arith))
-      (λ h. picked-by P (ltb 1 bit) (λ k. refused 1 (λ z. omega arith))
+      (λ e. picked-by P (ltb 1 trigger) (λ h. refused _ refl)
+      (λ h. picked-by P (ltb 1 bit) (λ k. refused _ refl)
       (λ k.
       let t : trigger ≤ 1 = ltb-false 1 trigger h in
       let b : bit ≤ 1 = ltb-false 1 bit k in
       step (e, omega arith, omega arith))))
-      (λ e. refused 2 (λ z. omega arith))
+      (λ e. refused _ refl)
 
   accepted : (r : Receiver) (trigger bit : ℕ) → Accepted r trigger bit → clockAnswer columns r trigger bit ≡ stepAnswer columns r trigger bit
   unfolding clockAnswer
@@ -144,7 +145,7 @@ module _ (columns : Kind → List ℕ) where
 
   nothing-else-refused : laws.NothingElseRefused columns
   nothing-else-refused r trigger bit = (
-    by-refusal (λ (a : ClockAnswer). a .refusal ≡ 0 → Accepted r trigger bit) r trigger bit (λ h e. h) (λ n m e. absurd (m e)),
+    by-refusal (λ (a : ClockAnswer). a .refusal ≡ 0 → Accepted r trigger bit) r trigger bit (λ h e. h) (λ n m e. absurd (eqb-false n 0 m e)),
     λ h. ap (λ (a : ClockAnswer). a .refusal) (accepted r trigger bit h) ∙ stepped-zero r trigger bit,
   )
 
@@ -159,6 +160,12 @@ module _ (columns : Kind → List ℕ) where
       same : (t : Bool) → cond t (refusedClock 1 r) (refusedClock 1 r) ≡ refusedClock 1 r
       same true = refl
       same false = refl
+
+  refused-law : laws.RefusedLaw columns
+  refused-law r trigger bit =
+      by-refusal (λ (a : ClockAnswer). a .refusal ≢ 0 → (a .receiver ≡ r) × ShowsNothing (a .outputs)) r trigger bit
+      (λ h n. absurd (n (stepped-zero r trigger bit)))
+      (λ n m z. (refl, record { no-trigger = refl; no-missed = refl; no-strobe = refl; no-number = refl; no-verdict = refl; no-flag = refl; no-word = refl }))
 
   stays-well-formed : laws.StaysWellFormed columns
   stays-well-formed r trigger bit e =
@@ -298,9 +305,11 @@ clock-theorem columns good =
       nothing-else-refused = nothing-else-refused columns;
       refused-by-2 = refused-by-2 columns;
       refused-by-1 = refused-by-1 columns;
+      refused-law = refused-law columns;
       stays-well-formed = stays-well-formed columns;
       waits-law = waits-law;
       fresh-waits = λ own. waits-none (freshCore own);
+      bit-law = bit-law;
       finishes-frames = finishes-frames;
       no-frame-law = no-frame-law columns;
       verdict-zero = verdict-zero columns;

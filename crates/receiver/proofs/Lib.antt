@@ -1,4 +1,5 @@
 pub mod TakeBit
+pub mod Bits
 pub mod Keep
 mod Rows
 mod BusSequence

@@ -58,10 +58,10 @@ unfinished n v e f g =
 frameOrPart-facts : (n v : ℕ) → Grown n v → TakenFacts (frameOrPart n v)
 unfolding frameOrPart
 frameOrPart-facts n v g =
-    picked-by TakenFacts (eqb n (frameBits Long)) (λ e. long-frame n v (eqb-true n (frameBits Long) e) g)
+    picked-by TakenFacts (eqb n (frameBits Long)) (λ e. long-frame n v (eqb-true _ _ e) g)
     (λ e. picked-by TakenFacts (eqb n (frameBits Short) && isFrame Short v)
-    (λ f. both (eqb n (frameBits Short)) (isFrame Short v) f .1)
-    (λ f. unfinished n v (eqb-false n (frameBits Long) e) f g))
+    (λ f. both (eqb n _) _ f .1)
+    (λ f. unfinished n v (eqb-false _ _ e) f g))
 
 -- one more bit behind the bits held
 more : (h : Held) (bit : ℕ) → HeldFacts h → bit < 2 → h .count ≢ 0 → Grown (h .count + 1) (h .bits * 2 + bit)

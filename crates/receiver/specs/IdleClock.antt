@@ -11,6 +11,11 @@ use Rattle.receiver.specs.declared.Bus.{Bus}
 use Rattle.receiver.specs.declared.Clocked.{Clocked}
 use Rattle.receiver_state.specs.State.{counters, wordsLeft, noSequence, withCounters, withSequence}
 
+-- "Trigger bit 1: trigger output 1 and the event counter goes up modulo 2^24."; "The bunch counter goes up modulo 4096."
+unfoldable pub countClock : Counters → ℕ → Counters
+countClock now trigger =
+    counters ((now .bunch + 1) % 4096) (cond (eqb trigger 1) ((now .event + 1) % 2 ^ 24) (now .event))
+
 -- "The bus output is a strobe kind (0 none, 1 bunch, 2 event low, 3 event high) and a number, 0 for kind 0."
 -- In order: the sequence that is left, strobe kind, number, missed flag.
 abbrev pub bus : Sequence → ℕ → ℕ → ℕ → Bus
@@ -45,28 +50,26 @@ started now mode =
     noStrobe))
 
 -- "If no sequence is running, one starts by control bits 1..0."
-unfoldable pub busStep : Core → ℕ → Bus
-busStep core trigger =
-    cond (ltb 0 (core .sequence .left)) (continued (core .sequence) trigger)
-    (cond (eqb trigger 1) (started (core .counters) (core .settings .control % 2 ^ 2))
+unfoldable pub busStep : Sequence → Counters → ℕ → ℕ → Bus
+busStep sequence now control trigger =
+    cond (ltb 0 (sequence .left)) (continued sequence trigger)
+    (cond (eqb trigger 1) (started now (control % 2 ^ 2))
     noStrobe)
 
--- "Trigger bit 1: trigger output 1 and the event counter goes up modulo 2^24."; "The bunch counter goes up modulo 4096."
-unfoldable pub countClock : Counters → ℕ → Counters
-countClock now trigger =
-    counters ((now .bunch + 1) % 4096) (cond (eqb trigger 1) ((now .event + 1) % 2 ^ 24) (now .event))
+abbrev pub busOf : Core → ℕ → Bus
+busOf core trigger = busStep (core .sequence) (core .counters) (core .settings .control) trigger
 
 -- "trigger output 1" on a trigger; and as no frame finishes, verdict, corrected flag and word are 0
 unfoldable pub idleClock : Core → ℕ → Clocked
 idleClock core trigger =
     record {
-      core = withSequence (busStep core trigger .sequence) (withCounters (countClock (core .counters) trigger) core);
+      core = withSequence (busOf core trigger .sequence) (withCounters (countClock (core .counters) trigger) core);
       outputs =
           record {
             trigger = trigger;
-            missed = busStep core trigger .missed;
-            strobe = busStep core trigger .strobe;
-            number = busStep core trigger .number;
+            missed = busOf core trigger .missed;
+            strobe = busOf core trigger .strobe;
+            number = busOf core trigger .number;
             verdict = 0;
             corrected = 0;
             word = 0;

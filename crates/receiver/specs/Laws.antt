@@ -1,5 +1,5 @@
 -- What holds of every clock, over the columns of each kind of frame. Proved in proofs/Laws.antt.
-use Prim.Native.Nat.{ℕ, _<_}
+use Prim.Native.Nat.{ℕ, _+_, _-_, _/_, _%_, _^_, _<_, _≤_}
 use mathlib.Core.Path.{_≡_}
 use mathlib.Core.Logic.{_≢_, _⊎_, _↔_}
 use mathlib.Core.Bool.{true, false}
@@ -7,19 +7,19 @@ use mathlib.Core.List.{List}
 use lib.ListN.{length}
 use Rattle.hamming.specs.Correction.{GoodColumns}
 use Rattle.frame.specs.declared.Kind.{Kind}
-use Rattle.frame.specs.Numbers.{dataBits, checkBits, isFrame}
+use Rattle.frame.specs.Numbers.{dataBits, checkBits, frameBits, isFrame}
 use Rattle.frame.specs.Decode.{decodeFrame}
 use Rattle.receiver_state.specs.declared.Ids.{Ids}
 use Rattle.receiver_state.specs.declared.Held.{Held}
 use Rattle.receiver_state.specs.declared.Receiver.{Receiver}
-use Rattle.receiver_state.specs.State.{nothingHeld, freshState}
+use Rattle.receiver_state.specs.State.{holding, nothingHeld, freshState}
 use Rattle.receiver_state.specs.WellFormed.{wellFormed}
 use Rattle.receiver.specs.declared.Taken.the-variants.{Unfinished, Finished}
 use Rattle.receiver.specs.TakeBit.{takeBit, Waits}
 use Rattle.receiver.specs.IdleClock.{idleClock}
 use Rattle.receiver.specs.Fate.{executed, columnsOf}
 use Rattle.receiver.specs.Clock.{clockedAnswer, refusedClock, clockAnswer}
-use Rattle.receiver.specs.StepLaws.{Stands, BusShows, SequenceLeft, CountersAdvance}
+use Rattle.receiver.specs.StepLaws.{ShowsNothing, Stands, BusShows, SequenceLeft, CountersAdvance}
 use Rattle.receiver.specs.FrameLaws.{ShowsFrame, ErrorsMove, SettingsMove, ExecutedFrame}
 
 -- ---- refusals
@@ -42,6 +42,12 @@ module _ (columns : Kind → List ℕ) where
       (r : Receiver) (trigger bit : ℕ) → wellFormed r ≡ true → (1 < trigger) ⊎ (1 < bit)
       → clockAnswer columns r trigger bit ≡ refusedClock 1 r
 
+  -- "with all other result fields 0", "the state unchanged"
+  abbrev pub RefusedLaw : Type 0
+  RefusedLaw =
+      (r : Receiver) (trigger bit : ℕ) → let done = clockAnswer columns r trigger bit in
+      done .refusal ≢ 0 → (done .receiver ≡ r) × ShowsNothing (done .outputs)
+
   -- a refused call hands back what it was given, so this is of every call
   abbrev pub StaysWellFormed : Type 0
   StaysWellFormed = (r : Receiver) (trigger bit : ℕ) → wellFormed r ≡ true → wellFormed (clockAnswer columns r trigger bit .receiver) ≡ true
@@ -56,6 +62,22 @@ abbrev pub FreshWaits : Type 0
 FreshWaits = (own : Ids) → Waits (freshState own)
 
 -- ---- the bit of channel B
+
+-- the first n bits of a frame number of the kind, in the order sent, and the bit behind them
+abbrev pub firstBits : Kind → ℕ → ℕ → Held
+firstBits kind number n = holding n (number / 2 ^ (frameBits kind - n))
+
+abbrev pub bitAfter : Kind → ℕ → ℕ → ℕ
+bitAfter kind number n = number / 2 ^ (frameBits kind - (n + 1)) % 2
+
+-- while waiting, a 1 is idle and a 0 the start bit; then every frame is taken bit by bit, and its last bit finishes it
+pub record BitLaw : Type 0 where
+  pub idle-bit : takeBit (holding 0 0) 1 ≡ Unfinished (holding 0 0)
+  pub start-bit : takeBit (holding 0 0) 0 ≡ Unfinished (holding 1 0)
+  pub next-bit : (kind : Kind) (number n : ℕ) → isFrame kind number ≡ true → 1 ≤ n → n + 1 < frameBits kind
+      → takeBit (firstBits kind number n) (bitAfter kind number n) ≡ Unfinished (firstBits kind number (n + 1))
+  pub last-bit : (kind : Kind) (number n : ℕ) → isFrame kind number ≡ true → n + 1 ≡ frameBits kind
+      → takeBit (firstBits kind number n) (bitAfter kind number n) ≡ Finished kind number
 
 -- the bit finishes that frame
 abbrev pub Finishes : Receiver → ℕ → Kind → ℕ → Type 0
@@ -146,9 +168,11 @@ pub record ClockLaws (columns : Kind → List ℕ) : Type 0 where
   pub nothing-else-refused : NothingElseRefused columns
   pub refused-by-2 : RefusedBy2 columns
   pub refused-by-1 : RefusedBy1 columns
+  pub refused-law : RefusedLaw columns
   pub stays-well-formed : StaysWellFormed columns
   pub waits-law : WaitsLaw
   pub fresh-waits : FreshWaits
+  pub bit-law : BitLaw
   pub finishes-frames : FinishesFrames
   pub no-frame-law : NoFrameLaw columns
   pub verdict-zero : VerdictZero columns

@@ -5,8 +5,17 @@ use mathlib.Core.Logic.{_≢_}
 use Rattle.receiver_state.specs.declared.Counters.{Counters}
 use Rattle.receiver_state.specs.declared.Sequence.{Sequence}
 use Rattle.receiver_state.specs.declared.Core.{Core}
-use Rattle.receiver_state.specs.State.{wordsLeft, noSequence}
 use Rattle.receiver.specs.declared.Outputs.{Outputs}
+
+-- every output is 0
+pub record ShowsNothing (shown : Outputs) : Type 0 where
+  pub no-trigger : shown .trigger ≡ 0
+  pub no-missed : shown .missed ≡ 0
+  pub no-strobe : shown .strobe ≡ 0
+  pub no-number : shown .number ≡ 0
+  pub no-verdict : shown .verdict ≡ 0
+  pub no-flag : shown .corrected ≡ 0
+  pub no-word : shown .word ≡ 0
 
 -- "the outputs of this clock stand": of two clocks, trigger output, missed flag and bus are the same
 pub record Stands (shown idle : Outputs) : Type 0 where
@@ -48,15 +57,20 @@ pub record BusShows (core : Core) (trigger : ℕ) (shown : Outputs) : Type 0 whe
   pub mode-3 : StartsIn core trigger 3 → Shows shown 1 (core .counters .bunch)
   pub nothing : core .sequence .left ≡ 0 → trigger ≡ 0 → Shows shown 0 0
 
--- the words left after the clock; a running sequence sees neither trigger nor control
+-- words left and kept event number
+pub record LeftIs (sequence : Sequence) (words event : ℕ) : Type 0 where
+  pub words-are : sequence .left ≡ words
+  pub event-is : sequence .event ≡ event
+
+-- what is left after the clock; of a running sequence it depends neither on trigger nor on control
 pub record SequenceLeft (core : Core) (trigger : ℕ) (after : Sequence) : Type 0 where
-  pub one-more : core .sequence .left ≡ 2 → after ≡ wordsLeft 1 (core .sequence .event)
-  pub no-more : core .sequence .left ≡ 1 → after ≡ noSequence
-  pub from-mode-0 : StartsIn core trigger 0 → after ≡ noSequence
-  pub from-mode-1 : StartsIn core trigger 1 → after ≡ noSequence
-  pub from-mode-2 : StartsIn core trigger 2 → after ≡ wordsLeft 1 (core .counters .event)
-  pub from-mode-3 : StartsIn core trigger 3 → after ≡ wordsLeft 2 (core .counters .event)
-  pub still-none : core .sequence .left ≡ 0 → trigger ≡ 0 → after ≡ noSequence
+  pub one-more : core .sequence .left ≡ 2 → LeftIs after 1 (core .sequence .event)
+  pub no-more : core .sequence .left ≡ 1 → LeftIs after 0 0
+  pub from-mode-0 : StartsIn core trigger 0 → LeftIs after 0 0
+  pub from-mode-1 : StartsIn core trigger 1 → LeftIs after 0 0
+  pub from-mode-2 : StartsIn core trigger 2 → LeftIs after 1 (core .counters .event)
+  pub from-mode-3 : StartsIn core trigger 3 → LeftIs after 2 (core .counters .event)
+  pub still-none : core .sequence .left ≡ 0 → trigger ≡ 0 → LeftIs after 0 0
 
 -- ---- the bunch and event counters
 

@@ -23,7 +23,8 @@ use receiver_state::Errors;
 use receiver_state::Settings;
 use receiver_state::fresh_core;
 
-// The frame number decoded, with document 01's columns.
+// The frame number decoded, with document 01's columns. Start and format were tested bit by bit, so
+// nothing is refused here.
 fn decode_finished(kind: Kind, number: u64) -> Answer
     ensures { λ r. ⌜ r ≡ finishedAnswer columnsOf kind number ⌝ }
 {
@@ -48,10 +49,10 @@ fn single_after(single: u16, corrected: u8) -> u16
 fn status_after(verdict: u8) -> u8
     ensures { λ r. ⌜ r ≡ cond (eqb verdict 7) 0 1 ⌝ }
 {
-    if verdict == 7 {
-        return 0;
+    if verdict != 7 {
+        return 1;
     }
-    1
+    0
 }
 
 // What every finished frame does to the single error counter and to status bit 5.
@@ -86,6 +87,7 @@ fn double_up(core: Core) -> Core
 }
 
 // A broadcast's bit 0 clears the bunch counter, bit 1 the event counter.
+// Each exit is one of the four ways, so that the proof needs no join.
 fn clear_by(byte: u8, counters: Counters) -> Counters
     ensures { λ r. ⌜ r ≡ cleared byte counters ⌝ }
 {

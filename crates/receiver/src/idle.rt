@@ -84,15 +84,16 @@ fn start_sequence(counters: Counters, mode: u8) -> Bus
     no_strobe()
 }
 
-fn bus_step(core: Core, trigger: u8) -> Bus
-    requires { ⌜ CoreFacts core ⌝ }
-    ensures { λ r. ⌜ r ≡ busStep core trigger ⌝ }
+// The counters are those before the clock.
+fn bus_step(sequence: Sequence, counters: Counters, control: u8, trigger: u8) -> Bus
+    requires { ⌜ SequenceFacts sequence ⌝ }
+    ensures { λ r. ⌜ r ≡ busStep sequence counters control trigger ⌝ }
 {
-    if core.sequence.left > 0 {
-        return continue_sequence(core.sequence, trigger);
+    if sequence.left > 0 {
+        return continue_sequence(sequence, trigger);
     }
     if trigger == 1 {
-        return start_sequence(core.counters, core.settings.control % 4);
+        return start_sequence(counters, control % 4);
     }
     no_strobe()
 }
@@ -119,8 +120,9 @@ pub(crate) fn idle_clock(core: Core, trigger: u8) -> Clocked
     requires { ⌜ CoreFacts core ⌝ }
     ensures { λ r. ⌜ r ≡ idleClock core trigger ⌝ }
 {
-    let bus = bus_step(core, trigger);
+    let control = core.settings.control;
     let counters = count_clock(core.counters, trigger);
+    let bus = bus_step(core.sequence, core.counters, control, trigger);
     let sequence = bus.sequence;
     let mut next = core;
     next.counters = counters;

@@ -5,7 +5,7 @@ ghost use mathlib.Core.Path.{_≡_};
 ghost use Prim.Native.Nat.{_<_};
 ghost use Rattle.receiver_state.specs.WellFormed.{ReceiverFacts};
 ghost use Rattle.receiver.specs.Fate.{columnsOf};
-ghost use Rattle.receiver.specs.Clock.{clockedAnswer, stepAnswer, refusedClock, clockAnswer};
+ghost use Rattle.receiver.specs.Clock.{stepAnswer, refusedClock, clockAnswer};
 use channel_b::held_after;
 use channel_b::take_bit;
 use fate::apply_frame;
@@ -85,27 +85,23 @@ fn refuse_clock(refusal: u8, receiver: Receiver) -> ClockAnswer
     }
 }
 
-// What a clock leaves and shows, with the frame bits then held.
-fn clocked_answer(held: Held, clocked: Clocked) -> ClockAnswer
-    ensures { λ r. ⌜ r ≡ clockedAnswer held clocked ⌝ }
-{
-    let core = clocked.core;
-    let outputs = clocked.outputs;
-    ClockAnswer {
-        refusal: 0,
-        receiver: Receiver { core, held },
-        outputs,
-    }
-}
-
-// A clock of a state that is known to be well formed.
+// A clock of a state that is known to be well formed, with two bits that are known to be bits.
 fn step(receiver: Receiver, trigger: u8, data: u8) -> ClockAnswer
     requires { ⌜ (ReceiverFacts receiver) × (trigger < 2) × («data» < 2) ⌝ }
     ensures { λ r. ⌜ r ≡ stepAnswer columnsOf receiver trigger «data» ⌝ }
 {
     let idle = idle_clock(receiver.core, trigger);
     let taken = take_bit(receiver.held, data);
-    clocked_answer(held_after(taken), apply_frame(taken, idle))
+    let held = held_after(taken);
+    let clocked = apply_frame(taken, idle);
+    let core = clocked.core;
+    let outputs = clocked.outputs;
+    let next = Receiver { core, held };
+    ClockAnswer {
+        refusal: 0,
+        receiver: next,
+        outputs,
+    }
 }
 
 // One clock, with a bit of channel A, the trigger, and one of channel B, the data.

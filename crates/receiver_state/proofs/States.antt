@@ -1,12 +1,16 @@
 -- What holds of well-formed and of fresh states. Assumes nothing.
 use mathlib.Core.Path.{_≡_, refl}
+use mathlib.Core.Bool.{true, false}
 use mathlib.Core.Logic.{_≢_, _⊎_, ⊎-elim}
 use Prim.Native.Nat.{ℕ, _<_, _≤_}
 use native.Mathlib.Omega.{arith}
-use Rattle.laws.proofs.Rules.{tests}
+use borrow.Author.Tests.{eqb-false, ltb-false}
+use lib.Dec.{eqb, ltb}
+use Rattle.laws.proofs.Rules.{picked-by, tests}
 use Rattle.receiver_state.specs.declared.Ids.{Ids}
-use Rattle.receiver_state.specs.State.{refusedFresh, freshState, freshAnswer}
-use Rattle.receiver_state.specs.WellFormed.{IdsFacts, ReceiverFacts}
+use Rattle.receiver_state.specs.declared.FreshAnswer.{FreshAnswer}
+use Rattle.receiver_state.specs.State.{ids, refusedFresh, freshState, freshAnswer}
+use Rattle.receiver_state.specs.WellFormed.{wellFormed, IdsFacts, ReceiverFacts}
 use Rattle.receiver_state.specs.States.{WellFormedLaw, FreshLaws}
 use Rattle.receiver_state.proofs.WellFormed.{receiver-facts, receiver-ok}
 use Rattle.receiver_state.proofs.HeldBits.{none-facts}
@@ -35,17 +39,35 @@ refused-3 : (id i2c : ℕ) → (id ≡ 0) ⊎ (16383 < id) → freshAnswer id i2
 unfolding freshAnswer
 refused-3 id i2c = ⊎-elim (λ z. search tests) (λ high. let some : id ≢ 0 = not-zero id (omega arith) in search tests)
 
+-- what is not refused is the fresh state of IDs in range
+well-formed : (id i2c : ℕ) → freshAnswer id i2c .refusal ≡ 0 → wellFormed (freshAnswer id i2c .receiver) ≡ true
+unfolding freshAnswer
+well-formed id i2c =
+    picked-by WellFormed (eqb id 0) (λ z r. absurd (omega arith))
+    (λ some. picked-by WellFormed (ltb 16383 id) (λ high r. absurd (omega arith))
+    (λ low. picked-by WellFormed (ltb 63 i2c) (λ high r. absurd (omega arith))
+    (λ i2c-low r. receiver-ok (freshState (ids id i2c)) (fresh-facts (ids id i2c) (in-range some low i2c-low)))))
+  where
+    WellFormed : FreshAnswer → Type 0
+    WellFormed answer = answer .refusal ≡ 0 → wellFormed (answer .receiver) ≡ true
+
+    in-range : eqb id 0 ≡ false → ltb 16383 id ≡ false → ltb 63 i2c ≡ false → IdsFacts (ids id i2c)
+    in-range some low i2c-low =
+        record {
+          some = let n : id ≢ 0 = eqb-false id 0 some in omega arith;
+          below = ltb-false 16383 id low;
+          i2c-below = ltb-false 63 i2c i2c-low;
+        }
+
 pub fresh-laws : FreshLaws
 unfolding freshAnswer
 fresh-laws =
     record {
-      accepted = λ id i2c f.
-          let some : id ≢ 0 = not-zero id (f .some) in
-          let high : id ≤ 16383 = f .below in
-          let i2c-high : i2c ≤ 63 = f .i2c-below in
-          search tests;
-      well-formed = λ own f. receiver-ok (freshState own) (fresh-facts own f);
-      status = λ own. refl;
+      accepted = λ id i2c least high i2c-high. let some : id ≢ 0 = not-zero id least in search tests;
       refused-3 = refused-3;
       refused-4 = λ id i2c least low high. let some : id ≢ 0 = not-zero id least in search tests;
+      zeros = refl;
+      values = λ id i2c. refl;
+      status = λ own. refl;
+      well-formed = well-formed;
     }

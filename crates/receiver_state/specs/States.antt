@@ -10,7 +10,7 @@ use Rattle.receiver_state.specs.declared.Ids.{Ids}
 use Rattle.receiver_state.specs.declared.Held.{Held}
 use Rattle.receiver_state.specs.declared.Receiver.{Receiver}
 use Rattle.receiver_state.specs.State.{ids, nothingHeld, statusByte, freshCore, freshState, freshOf, refusedFresh, freshAnswer}
-use Rattle.receiver_state.specs.WellFormed.{wellFormed, IdsFacts, HeldFacts, ReceiverFacts}
+use Rattle.receiver_state.specs.WellFormed.{wellFormed, HeldFacts, ReceiverFacts}
 
 -- ---- well formed
 
@@ -33,11 +33,29 @@ HeldLaw = (h : Held) → HeldFacts h ↔ ((h ≡ nothingHeld) ⊎ (PartOf Short 
 
 -- ---- fresh
 
+-- the state with these IDs, control, Config 2, Config 3 and status bit 5, in which all else is 0
+abbrev pub stateOf : ℕ → ℕ → ℕ → ℕ → ℕ → ℕ → Receiver
+stateOf id i2c control config2 config3 status5 =
+    record {
+      core =
+          record {
+            ids = record { id = id; i2c = i2c };
+            settings = record { fine1 = 0; fine2 = 0; coarse = 0; control = control; config2 = config2; config3 = config3 };
+            errors = record { single = 0; double = 0; status5 = status5 };
+            counters = record { bunch = 0; event = 0 };
+            sequence = record { left = 0; event = 0 };
+          };
+      held = record { count = 0; bits = 0 };
+    }
+
 pub record FreshLaws : Type 0 where
-  -- IDs in range give the fresh state, which is well formed and whose status is 0xE0
-  pub accepted : (id i2c : ℕ) → IdsFacts (ids id i2c) → freshAnswer id i2c ≡ freshOf 0 (freshState (ids id i2c))
-  pub well-formed : (own : Ids) → IdsFacts own → wellFormed (freshState own) ≡ true
-  pub status : (own : Ids) → statusByte (freshCore own) ≡ 0xE0
-  -- all others are refused, by 3 before 4
+  -- IDs in range give the fresh state
+  pub accepted : (id i2c : ℕ) → 1 ≤ id → id ≤ 16383 → i2c ≤ 63 → freshAnswer id i2c ≡ freshOf 0 (freshState (ids id i2c))
+  -- all others are refused, by 3 before 4, with every field 0
   pub refused-3 : (id i2c : ℕ) → (id ≡ 0) ⊎ (16383 < id) → freshAnswer id i2c ≡ refusedFresh 3
   pub refused-4 : (id i2c : ℕ) → 1 ≤ id → id ≤ 16383 → 63 < i2c → freshAnswer id i2c ≡ refusedFresh 4
+  pub zeros : refusedFresh ≡ (λ refusal. freshOf refusal (stateOf 0 0 0 0 0 0))
+  -- "Fresh: registers 0, 1 and 2 are 0, control 0x93, Config 2 0x85, Config 3 0xA7, all counters 0, waiting, no sequence, status 0xE0."
+  pub values : (id i2c : ℕ) → freshState (ids id i2c) ≡ stateOf id i2c 0x93 0x85 0xA7 1
+  pub status : (own : Ids) → statusByte (freshCore own) ≡ 0xE0
+  pub well-formed : (id i2c : ℕ) → freshAnswer id i2c .refusal ≡ 0 → wellFormed (freshAnswer id i2c .receiver) ≡ true

@@ -64,6 +64,7 @@ pub(crate) fn core_ok(core: Core) -> bool
     core.errors.status5 <= 1
 }
 
+// A shift, as a power of two.
 fn power(n: u8) -> u64
     requires { ⌜ n < 64 ⌝ }
     ensures { λ r. ⌜ r ≡ 2 ^ n ⌝ }
@@ -80,6 +81,7 @@ pub(crate) fn held_ok(held: Held) -> bool
     if count > 41 {
         return false;
     }
+    // 41 bits with a first bit of 0 are below 2^40; and the products below fit.
     if bits >= 0x100_0000_0000 {
         return false;
     }

@@ -1,4 +1,4 @@
--- `receiver::step` meets its contract: the line and the idle clock meet here. Assumes nothing.
+-- `receiver::step` meets its contract: the bits held, and the table on steps 1 and 2, meet here. Assumes nothing.
 use Rattle.receiver.specs.Clock.{stepAnswer}
 use borrow.Author.Needs.{needs}
 use Rattle.receiver.proofs.step.Statement.{statement}
@@ -16,12 +16,9 @@ held-after-requires c κs = search needs
 apply-frame-requires : tie.Need-apply-frame-requires
 apply-frame-requires c κs = search needs
 
-clocked-answer-requires : tie.Need-clocked-answer-requires
-clocked-answer-requires c κs = search needs
-
 returns : tie.Need-returns
 unfolding stepAnswer
-returns c = rw (c .clocked-answer .ensures, c .before .apply-frame .ensures, c .before .before .held-after .ensures, c .before .before .before .take-bit .ensures, c .before .before .before .before .idle-clock .ensures)
+returns c = rw (c .before .before .apply-frame .ensures, c .before .before .before .held-after .ensures, c .before .before .before .before .take-bit .ensures, c .before .before .before .before .before .idle-clock .ensures)
 
 pub step-spec : {M : Type 1} → statement M
 step-spec =
@@ -31,5 +28,4 @@ step-spec =
     take-bit-requires
     held-after-requires
     apply-frame-requires
-    clocked-answer-requires
     returns)

@@ -4,15 +4,15 @@ use borrow.Author.Needs.{needs}
 use Rattle.receiver.proofs.idle.idle_clock.Statement.{statement}
 use Rattle.receiver.proofs.idle.idle_clock.Tie as tie
 
-bus-step-requires : tie.Need-bus-step-requires
-bus-step-requires c κs = search needs
-
 count-clock-requires : tie.Need-count-clock-requires
 count-clock-requires c κs = search needs
 
+bus-step-requires : tie.Need-bus-step-requires
+bus-step-requires c κs = search needs
+
 returns : tie.Need-returns
 unfolding idleClock
-returns c = rw (c .before .count-clock .ensures, c .before .before .bus-step .ensures)
+returns c = rw (c .before .bus-step .ensures, c .before .before .count-clock .ensures)
 
 pub idle-clock-spec : {M : Type 1} → statement M
-idle-clock-spec = tie.close (tie.spec bus-step-requires count-clock-requires returns)
+idle-clock-spec = tie.close (tie.spec count-clock-requires bus-step-requires returns)
