@@ -1,6 +1,7 @@
 // Document 01's trigger example, and what triggers, wraps, clears, a control write and RESET do to a
 // sequence on the bus.
-// Of each clock that shows something, it prints the number of the clock, then what it shows.
+// It prints the number of each clock, then what the clock shows; of a frame's clocks only those that
+// show something.
 use frame::encode_long;
 use frame::encode_short;
 use receiver::Outputs;
@@ -52,11 +53,37 @@ fn print_clock(number: u64, outputs: Outputs) {
     io::write_all(1, b"\n");
 }
 
+// Of a frame's clocks only those are printed that show something.
 fn shows_nothing(outputs: Outputs) -> bool {
     if outputs.trigger > 0 {
         return false;
     }
-    outputs.strobe == 0 && outputs.verdict == 0
+    if outputs.missed > 0 {
+        return false;
+    }
+    if outputs.strobe > 0 {
+        return false;
+    }
+    if outputs.number > 0 {
+        return false;
+    }
+    if outputs.verdict > 0 {
+        return false;
+    }
+    outputs.corrected == 0 && outputs.word == 0
+}
+
+// A clock that shows nothing is printed as such, or not at all.
+fn print_or_skip(number: u64, outputs: Outputs, skip: bool) {
+    if !shows_nothing(outputs) {
+        print_clock(number, outputs);
+        return;
+    }
+    if skip {
+        return;
+    }
+    io::print_decimal(1, number);
+    io::write_all(1, b" nothing\n");
 }
 
 fn print_state(receiver: Receiver) {
@@ -67,7 +94,7 @@ fn print_state(receiver: Receiver) {
 }
 
 // As many clocks as `first` has bits, with the bits of two numbers as triggers and data.
-fn run(start: Receiver, triggers: u64, data: u64, first: u64) -> Receiver {
+fn run(start: Receiver, triggers: u64, data: u64, first: u64, skip: bool) -> Receiver {
     let mut receiver = start;
     let mut place = first;
     let mut number = 1u64;
@@ -75,9 +102,7 @@ fn run(start: Receiver, triggers: u64, data: u64, first: u64) -> Receiver {
         let trigger = (triggers / place % 2) as u8;
         let bit = (data / place % 2) as u8;
         let answer = clock(receiver, trigger, bit);
-        if !shows_nothing(answer.outputs) {
-            print_clock(number, answer.outputs);
-        }
+        print_or_skip(number, answer.outputs, skip);
         let next = answer.receiver;
         receiver = next;
         number = std::num::wrapping_add_u64(number, 1);
@@ -90,12 +115,12 @@ fn run(start: Receiver, triggers: u64, data: u64, first: u64) -> Receiver {
 fn in_mode(control: u8) -> Receiver {
     let write = encode_long(5, 0, 3, control);
     let start = fresh(5, 5);
-    run(start.receiver, 0, write.number, FIRST_OF_LONG)
+    run(start.receiver, 0, write.number, FIRST_OF_LONG, true)
 }
 
 // Idle bits on channel B.
 fn triggered(start: Receiver, triggers: u64) {
-    print_state(run(start, triggers, FIRST_OF_FIVE * 2 - 1, FIRST_OF_FIVE));
+    print_state(run(start, triggers, FIRST_OF_FIVE * 2 - 1, FIRST_OF_FIVE, false));
 }
 
 fn modes() {
@@ -139,7 +164,7 @@ fn wraps() {
 // A broadcast in mode 3, with triggers on its first and last clock.
 fn broadcast(data: u8) {
     let sent = encode_short(data);
-    let after = run(in_mode(3), 0x8001, sent.number, FIRST_OF_SHORT);
+    let after = run(in_mode(3), 0x8001, sent.number, FIRST_OF_SHORT, true);
     print_state(after);
     triggered(after, 0);
 }
@@ -165,7 +190,7 @@ fn broadcasts() {
 // A long frame for this receiver in mode 3, then five clocks.
 fn addressed(sub: u8, data: u8, triggers: u64, later: u64) {
     let sent = encode_long(5, 0, sub, data);
-    let after = run(in_mode(3), triggers, sent.number, FIRST_OF_LONG);
+    let after = run(in_mode(3), triggers, sent.number, FIRST_OF_LONG, true);
     print_state(after);
     triggered(after, later);
 }

@@ -5,10 +5,10 @@ use Rattle.check_triggers.proofs.run.Statement.{statement}
 use Rattle.check_triggers.proofs.run.Tie as tie
 
 abbrev Inv-loop : tie.InvT-loop
-Inv-loop triggers «data» first receiver₀ place₀ number₀ receiver place number = Unit {0}
+Inv-loop triggers «data» first skip receiver₀ place₀ number₀ receiver place number = Unit {0}
 
 abbrev μ-loop : tie.MeasureT-loop
-μ-loop triggers «data» first receiver₀ place₀ number₀ receiver place number = place
+μ-loop triggers «data» first skip receiver₀ place₀ number₀ receiver place number = place
 
 loop-holds : tie.Need-loop-holds Inv-loop μ-loop
 loop-holds c = search needs
@@ -28,11 +28,8 @@ cast-bit c = search needs
 clock-requires : tie.Need-clock-requires Inv-loop μ-loop
 clock-requires c κs = search needs
 
-shows-nothing-requires : tie.Need-shows-nothing-requires Inv-loop μ-loop
-shows-nothing-requires c κs = search needs
-
-print-clock-requires : tie.Need-print-clock-requires Inv-loop μ-loop
-print-clock-requires c κs = search needs
+print-or-skip-requires : tie.Need-print-or-skip-requires Inv-loop μ-loop
+print-or-skip-requires c κs = search needs
 
 wrapping-add-u64-requires : tie.Need-wrapping-add-u64-requires Inv-loop μ-loop
 wrapping-add-u64-requires c κs = search needs
@@ -58,8 +55,7 @@ run-spec =
     div-bit
     cast-bit
     clock-requires
-    shows-nothing-requires
-    print-clock-requires
+    print-or-skip-requires
     wrapping-add-u64-requires
     loop-less
     loop-again
