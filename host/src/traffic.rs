@@ -246,7 +246,7 @@ impl Traffic {
         self.paces.seen([self.pace, self.triggers]);
     }
 
-    /// Fails if not every kind of damage, pace and rate of triggers was sent.
+    /// Fails if some kind of damage, pace or rate of triggers was never chosen.
     #[track_caller]
     pub fn assert_complete(&self) {
         assert_seen(&[&self.sent, &self.paces]);

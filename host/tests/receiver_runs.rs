@@ -46,26 +46,29 @@ impl Runs {
         }
     }
 
-    /// Refused clocks between those of a run leave the state as it was.
+    /// Refused clocks between those of a run: one of an ill-formed state, one with a bit over 1, which
+    /// hands the state back.
     fn refused_between(&mut self, state: ffi::Receiver) -> ffi::Receiver {
         let over = 2 + self.random.byte() % 254;
-        let (trigger, data) = self.random.pick(&[(over, 0), (1, over), (over, over)]);
+        let bits = self.random.pick(&[(over, 0), (1, over), (over, over)]);
         let mut ill_formed = state;
         ill_formed.core.ids.i2c |= 64;
-        for (state, refusal) in [(ill_formed, 2), (state, 1)] {
-            let library = ttcrx::clock(state, trigger, data);
-            let expected = ClockAnswer {
-                refusal,
-                receiver: state,
-                ..ClockAnswer::default()
-            };
-            self.cases.same((state, trigger, data), library, expected);
-            self.coverage.refusal(library.refusal);
-            if refusal == 1 {
-                return library.receiver;
-            }
-        }
-        state
+        self.refused(ill_formed, bits, 2);
+        self.refused(state, bits, 1)
+    }
+
+    /// A clock that must be refused by this number, with the state as it came.
+    fn refused(&mut self, state: ffi::Receiver, bits: (u8, u8), refusal: u8) -> ffi::Receiver {
+        let (trigger, data) = bits;
+        let library = ttcrx::clock(state, trigger, data);
+        let expected = ClockAnswer {
+            refusal,
+            receiver: state,
+            ..ClockAnswer::default()
+        };
+        self.cases.same((state, trigger, data), library, expected);
+        self.coverage.refusal(library.refusal);
+        library.receiver
     }
 
     /// A fresh state of the library, after two that it refuses.

@@ -1,5 +1,5 @@
--- Document 01, "One clock", steps 1 and 2 alone: what a clock leaves and shows where no frame finishes (`NoFrameLaw` of Laws.antt). They see
--- neither the frame bits held nor channel B.
+-- Document 01, "One clock", steps 1 and 2 alone: what a clock leaves and shows where no frame finishes (`NoFrameLaw` of Laws.antt). They
+-- depend neither on the frame bits held nor on channel B.
 -- "All numbers used are those before the clock."
 use Prim.Native.Nat.{ℕ, _+_, _/_, _%_, _^_}
 use mathlib.Core.Bool.{cond}
@@ -32,7 +32,7 @@ abbrev pub eventHigh : ℕ → ℕ
 eventHigh event = event / 2 ^ 12
 
 -- "If a sequence is running (words left before this clock), it goes on, as it does on every clock, and the missed flag is 1", if a trigger came.
--- With two words left event low comes, with one left event high. It does not see control: "A later write to the control register doesn't alter a
+-- With two words left event low comes, with one left event high. It does not depend on control: "A later write to the control register doesn't alter a
 -- running sequence."
 unfoldable pub continued : Sequence → ℕ → Bus
 continued sequence trigger =

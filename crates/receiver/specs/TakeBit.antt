@@ -1,4 +1,4 @@
--- Document 01, "Frames on channel B": one bit of channel B on the frame bits held. It sees no trigger, register or counter.
+-- Document 01, "Frames on channel B": one bit of channel B on the frame bits held. It depends on no trigger, register or counter.
 -- `Taken` is the enum of src/lib.rt: no frame finished, and the bits then held, if any; or a finished frame's kind and number.
 use Prim.Native.Nat.{ℕ, _+_, _*_}
 use mathlib.Core.Path.{_≡_}

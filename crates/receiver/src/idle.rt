@@ -1,5 +1,5 @@
-// Document 01, "One clock", steps 1 and 2 alone: the clock where no frame finishes. They see neither
-// the frame bits held nor channel B.
+// Document 01, "One clock", steps 1 and 2 alone: the clock where no frame finishes. They
+// depend neither on the frame bits held nor on channel B.
 ghost use mathlib.Core.Path.{_≡_};
 ghost use Prim.Native.Nat.{_<_};
 ghost use Rattle.receiver_state.specs.WellFormed.{CountersFacts, SequenceFacts, CoreFacts};
