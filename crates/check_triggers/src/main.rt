@@ -2,9 +2,9 @@
 // sequence on the bus.
 // It prints the number of each clock, then what the clock shows; of a frame's clocks only those that
 // show something.
+use fate::Outputs;
 use frame::encode_long;
 use frame::encode_short;
-use receiver::Outputs;
 use receiver::clock;
 use receiver_state::Counters;
 use receiver_state::Receiver;

@@ -1,29 +1,27 @@
 -- A clock keeps the state well formed. Assumes nothing.
 use mathlib.Core.Path.{refl}
-use Prim.Native.Nat.{ℕ, _+_, _/_, _%_, _^_, _<_, _≤_}
+use Prim.Native.Nat.{ℕ, _+_, _%_, _^_, _<_}
 use mathlib.Core.List.{List}
 use native.Mathlib.Nat.{mod-lt}
 use native.Mathlib.Omega.{arith}
 use lib.Dec.{eqb, ltb, lit<}
 use Rattle.laws.proofs.Rules.{picked}
 use Rattle.frame.specs.declared.Kind.{Kind}
-use Rattle.frame.specs.declared.Answer.{Answer}
 use Rattle.receiver_state.specs.declared.Counters.{Counters}
 use Rattle.receiver_state.specs.declared.Core.{Core}
 use Rattle.receiver_state.specs.declared.Receiver.{Receiver}
-use Rattle.receiver_state.specs.State.{wordsLeft, noSequence, withSettings, withCounters, receiver}
+use Rattle.receiver_state.specs.State.{wordsLeft, noSequence, receiver}
 use Rattle.receiver_state.specs.WellFormed.{CountersFacts, SequenceFacts, CoreFacts, ReceiverFacts}
 use Rattle.receiver_state.proofs.HeldBits.{none-facts}
-use Rattle.receiver_state.proofs.States.{fresh-facts}
 use Rattle.receiver.specs.declared.Bus.{Bus}
-use Rattle.receiver.specs.declared.Clocked.{Clocked}
-use Rattle.receiver.specs.declared.Row.{Row}
+use Rattle.fate.specs.declared.Clocked.{Clocked}
 use Rattle.receiver.specs.declared.Taken.{Taken}
 use Rattle.receiver.specs.declared.Taken.the-variants.{Unfinished, Finished}
 use Rattle.receiver.specs.TakeBit.{takeBit, heldAfter}
 use Rattle.receiver.specs.IdleClock.{continued, started, busStep, busOf, countClock, idleClock}
-use Rattle.receiver.specs.Fate.{doubleUp, cleared, stored, isShort, foreign, fate, countErrors, finishedAnswer, finished, applyFrame}
-use Rattle.receiver.specs.Clock.{stepAnswer}
+use Rattle.fate.specs.Fate.{finishedAnswer}
+use Rattle.receiver.specs.Clock.{applyFrame, stepAnswer}
+use Rattle.fate.proofs.Keep.{finished-facts}
 use Rattle.receiver.proofs.TakeBit.{TakenFacts, taken-facts}
 
 -- ---- the idle clock
@@ -67,76 +65,13 @@ idle-facts core trigger f =
       flag = f .flag;
     }
 
--- ---- the table
-
-counted-facts : (frame : Answer) (core : Core) → CoreFacts core → CoreFacts (countErrors frame core)
-unfolding countErrors
-counted-facts frame core f =
-    record {
-      of-ids = f .of-ids;
-      of-settings = f .of-settings;
-      of-counters = f .of-counters;
-      of-sequence = f .of-sequence;
-      flag = picked (λ (n : ℕ). n ≤ 1) (eqb (frame .verdict) 7) (omega arith) (omega arith);
-    }
-
-up-facts : (core : Core) → CoreFacts core → CoreFacts (doubleUp core)
-unfolding doubleUp
-up-facts core f =
-    record { of-ids = f .of-ids; of-settings = f .of-settings; of-counters = f .of-counters; of-sequence = f .of-sequence; flag = f .flag }
-
-cleared-facts : (byte : ℕ) (core : Core) → CoreFacts core → CoreFacts (withCounters (cleared byte (core .counters)) core)
-unfolding cleared
-cleared-facts byte core f =
-    record {
-      of-ids = f .of-ids;
-      of-settings = f .of-settings;
-      of-counters =
-          record {
-            bunch-below = picked (λ (n : ℕ). n < 4096) (eqb (byte % 2) 1) (omega arith) (f .of-counters .bunch-below);
-            event-below = picked (λ (n : ℕ). n < 2 ^ 24) (eqb (byte / 2 % 2) 1) (omega arith) (f .of-counters .event-below);
-          };
-      of-sequence = f .of-sequence;
-      flag = f .flag;
-    }
-
-stored-facts : (sub byte : ℕ) (core : Core) → CoreFacts core → CoreFacts (withSettings (stored sub byte (core .settings)) core)
-unfolding stored
-stored-facts sub byte core f =
-    record {
-      of-ids = f .of-ids;
-      of-settings = record { config-2 = f .of-settings .config-2; config-3 = f .of-settings .config-3 };
-      of-counters = f .of-counters;
-      of-sequence = f .of-sequence;
-      flag = f .flag;
-    }
-
-abbrev RowWellFormed : Row → Type 0
-RowWellFormed row = CoreFacts (row .core)
-
-fate-facts : (kind : Kind) (frame : Answer) (core : Core) → CoreFacts core → RowWellFormed (fate kind frame core)
-unfolding fate
-fate-facts kind frame core f =
-    picked RowWellFormed (eqb (frame .verdict) 7) (up-facts core f)
-    (picked RowWellFormed (eqb (frame .verdict) 8) (up-facts core f)
-    (picked RowWellFormed (eqb (frame .verdict) 9) (up-facts core f)
-    (picked RowWellFormed (isShort kind) (cleared-facts _ core f)
-    (picked RowWellFormed (foreign (frame .fields .address) (core .ids .id)) f
-    (picked RowWellFormed (eqb (frame .fields .e) 1) f
-    (picked RowWellFormed (ltb (frame .fields .sub) 4) (stored-facts _ _ core f)
-    (picked RowWellFormed (eqb (frame .fields .sub) 6) (fresh-facts (core .ids) (f .of-ids) .of-core) f)))))))
-
 -- ---- the step
 
 after-facts : (columns : Kind → List ℕ) (taken : Taken) (idle : Clocked) → TakenFacts taken → CoreFacts (idle .core)
     → ReceiverFacts (receiver (applyFrame columns taken idle .core) (heldAfter taken))
-unfolding finished
 after-facts columns (Unfinished held) idle h f = record { of-core = f; of-held = h }
 after-facts columns (Finished kind number) idle h f =
-    record {
-      of-core = fate-facts kind (finishedAnswer columns kind number) _ (counted-facts (finishedAnswer columns kind number) (idle .core) f);
-      of-held = none-facts;
-    }
+    record { of-core = finished-facts kind (finishedAnswer columns kind number) idle f; of-held = none-facts }
 
 pub step-facts : (columns : Kind → List ℕ) (r : Receiver) (trigger bit : ℕ) → ReceiverFacts r → bit < 2
     → ReceiverFacts (stepAnswer columns r trigger bit .receiver)

@@ -8,12 +8,8 @@ use native.Mathlib.Omega.{arith}
 use borrow.Author.Tests.{eqb-false, lt-ltb, le-ltb, ltb-false}
 use lib.Dec.{eqb, ltb}
 use Rattle.laws.proofs.Rules.{picked-by}
-use Rattle.hamming.proofs.Uses.{short-columns-good, long-columns-good}
+use Rattle.fate.proofs.Laws.{fate-theorem, tables-good}
 use Rattle.frame.specs.declared.Kind.{Kind}
-use Rattle.frame.specs.declared.Kind.the-variants.{Short, Long}
-use Rattle.frame.specs.Decode.{judged}
-use Rattle.frame.specs.Frames.{FrameFacts}
-use Rattle.frame.proofs.Frames.{frame-theorem}
 use Rattle.receiver_state.specs.declared.Settings.{Settings}
 use Rattle.receiver_state.specs.declared.Errors.{Errors}
 use Rattle.receiver_state.specs.declared.Core.{Core}
@@ -22,28 +18,24 @@ use Rattle.receiver_state.specs.declared.Receiver.{Receiver}
 use Rattle.receiver_state.specs.State.{holding, nothingHeld, receiver, freshCore, freshState}
 use Rattle.receiver_state.specs.WellFormed.{wellFormed, HeldFacts}
 use Rattle.receiver_state.proofs.WellFormed.{receiver-facts, receiver-ok}
-use Rattle.receiver.specs.declared.Outputs.{Outputs}
+use Rattle.fate.specs.declared.Outputs.{Outputs}
 use Rattle.receiver.specs.declared.ClockAnswer.{ClockAnswer}
 use Rattle.receiver.specs.declared.Taken.{Taken}
 use Rattle.receiver.specs.declared.Taken.the-variants.{Unfinished, Finished}
 use Rattle.receiver.specs.TakeBit.{takeBit, heldAfter, Waits}
 use Rattle.receiver.specs.IdleClock.{idleClock}
-use Rattle.receiver.specs.Fate.{columnsOf, finishedAnswer, countErrors, shows, finished, applyFrame}
-use Rattle.receiver.specs.Clock.{clockedAnswer, stepAnswer, refusedClock, clockAnswer}
+use Rattle.fate.specs.Fate.{columnsOf, finishedAnswer, finished}
+use Rattle.receiver.specs.Clock.{applyFrame, clockedAnswer, stepAnswer, refusedClock, clockAnswer}
 use Rattle.receiver.specs.Laws as laws
-use Rattle.receiver.specs.StepLaws.{ShowsNothing, Stands, Shows, BusShows, SequenceLeft, CountersAdvance}
-use Rattle.receiver.specs.FrameLaws.{ErrorsMove, SettingsMove}
-use Rattle.receiver.specs.Laws.{Accepted, GoodTables, ClockTheorem, ReceiverLaws}
+use Rattle.receiver.specs.StepLaws.{ShowsNothing, Shows, BusShows, SequenceLeft, CountersAdvance}
+use Rattle.fate.specs.FrameLaws.{Stands, ErrorsMove, SettingsMove}
+use Rattle.fate.specs.Laws.{FateLaws}
+use Rattle.receiver.specs.Laws.{Accepted, ClockLaws, ClockTheorem, ReceiverLaws}
 use Rattle.receiver.proofs.TakeBit.{TakenFacts, taken-facts}
 use Rattle.receiver.proofs.Bits.{bit-law}
 use Rattle.receiver.proofs.Keep.{step-facts}
-use Rattle.receiver.proofs.Rows.{row-facts}
 use Rattle.receiver.proofs.BusSequence.{idle-shows, idle-left}
-use Rattle.receiver.proofs.Advance.{idle-verdict, idle-goes, finished-goes, advance}
-use Rattle.receiver.proofs.Counts.{finished-moves}
-use Rattle.receiver.proofs.Stored.{finished-settings}
-use Rattle.receiver.proofs.Verdicts.{finished-answer, shows-frame}
-use Rattle.receiver.proofs.Executed.{executed-law}
+use Rattle.receiver.proofs.Advance.{unmoved-counters, advance}
 
 -- ---- waiting
 
@@ -65,14 +57,12 @@ finishes-frames : laws.FinishesFrames
 finishes-frames r bit kind number e b f = subst TakenFacts f (taken-facts (r .held) bit (receiver-facts r e .of-held) b)
 
 -- what holds of a bus holds of outputs that show the same
-same-bus : (core : Core) (trigger : ℕ) (shown idle : Outputs) → shows (shown .verdict) (shown .corrected) (shown .word) idle ≡ shown
-    → BusShows core trigger idle → BusShows core trigger shown
+same-bus : (core : Core) (trigger : ℕ) (shown idle : Outputs) → Stands shown idle → BusShows core trigger idle → BusShows core trigger shown
 same-bus core trigger shown idle e b =
-    rw (← e)
-    (record {
-      trigger-shown = b .trigger-shown;
-      missed-if-running = b .missed-if-running;
-      not-missed = b .not-missed;
+    record {
+      trigger-shown = e .trigger-stands ∙ b .trigger-shown;
+      missed-if-running = λ p. e .missed-stands ∙ b .missed-if-running p;
+      not-missed = λ p. e .missed-stands ∙ b .not-missed p;
       event-low-next = λ p. same (b .event-low-next p);
       event-high-next = λ p. same (b .event-high-next p);
       mode-0 = λ p. same (b .mode-0 p);
@@ -80,10 +70,10 @@ same-bus core trigger shown idle e b =
       mode-2 = λ p. same (b .mode-2 p);
       mode-3 = λ p. same (b .mode-3 p);
       nothing = λ p q. same (b .nothing p q);
-    })
+    }
   where
-    same : {strobe number : ℕ} → Shows idle strobe number → Shows (shows (shown .verdict) (shown .corrected) (shown .word) idle) strobe number
-    same s = record { strobe-is = s .strobe-is; number-is = s .number-is }
+    same : {strobe number : ℕ} → Shows idle strobe number → Shows shown strobe number
+    same s = record { strobe-is = e .strobe-stands ∙ s .strobe-is; number-is = e .number-stands ∙ s .number-is }
 
 -- ---- a clock that finishes no frame
 
@@ -114,7 +104,7 @@ abbrev IsUnfinished : Taken → Type 0
 IsUnfinished (Unfinished held) = Unit {0}
 IsUnfinished (Finished kind number) = ⊥
 
-module _ (columns : Kind → List ℕ) where
+module _ (columns : Kind → List ℕ) (fates : FateLaws columns) where
   -- ---- refused or stepped
 
   -- what holds of the step of an accepted clock, and of every refusal, holds of the clock
@@ -192,17 +182,17 @@ module _ (columns : Kind → List ℕ) where
       rw (accepted r trigger bit h)
       (by-taken (λ taken (a : ClockAnswer). (a .outputs .verdict ≡ 0) ↔ ((kind : Kind) (number : ℕ) → taken ≡ Finished kind number → ⊥)) r trigger bit
       (λ held. (λ e kind number f. subst IsUnfinished f tt, λ f. refl))
-      (λ kind number. (λ e. absurd (row-facts kind (finishedAnswer columns kind number) (idleClock (r .core) trigger .core) .not-zero e), λ f. absurd (f kind number refl))))
+      (λ kind number. (λ e. absurd (fates .not-zero kind number (idleClock (r .core) trigger) e), λ f. absurd (f kind number refl))))
 
   no-frame-law : laws.NoFrameLaw columns
   unfolding stepAnswer
   no-frame-law r trigger bit held h e = accepted r trigger bit h ∙ rw e refl
 
   verdict-law : laws.VerdictLaw columns
-  unfolding stepAnswer finishedAnswer idleClock
+  unfolding stepAnswer idleClock
   verdict-law r trigger bit kind number h f =
-      rw (accepted r trigger bit h, f, finished-answer columns kind number (finishes-frames r bit kind number (h .0) (h .2) f))
-      (shows-frame kind (judged (columns kind) kind number) (idleClock (r .core) trigger))
+      rw (accepted r trigger bit h, f)
+      (fates .shows-frame kind number (idleClock (r .core) trigger) (finishes-frames r bit kind number (h .0) (h .2) f))
 
   waits-after : laws.WaitsAfter columns
   unfolding idleClock
@@ -216,119 +206,114 @@ module _ (columns : Kind → List ℕ) where
   -- ---- steps 1 and 2
 
   outputs-stand : laws.OutputsStand columns
-  unfolding finished
   outputs-stand r trigger bit h =
       rw (accepted r trigger bit h)
       (by-taken (λ taken (a : ClockAnswer). Stands (a .outputs) (idleClock (r .core) trigger .outputs)) r trigger bit
       (λ held. record { trigger-stands = refl; missed-stands = refl; strobe-stands = refl; number-stands = refl })
-      (λ kind number. record { trigger-stands = refl; missed-stands = refl; strobe-stands = refl; number-stands = refl }))
+      (λ kind number. fates .outputs-stand kind number (idleClock (r .core) trigger)))
 
   bus-law : laws.BusLaw columns
-  unfolding finished
   bus-law r trigger bit h =
       rw (accepted r trigger bit h)
       (by-taken (λ taken (a : ClockAnswer). BusShows (r .core) trigger (a .outputs)) r trigger bit
       (λ held. idle-shows (r .core) trigger)
-      (λ kind number. same-bus (r .core) trigger _ _ refl (idle-shows (r .core) trigger)))
+      (λ kind number. same-bus (r .core) trigger _ _ (fates .outputs-stand kind number (idleClock (r .core) trigger)) (idle-shows (r .core) trigger)))
 
   sequence-law : laws.SequenceLaw columns
-  unfolding finished
   sequence-law r trigger bit h =
       rw (accepted r trigger bit h)
       (by-taken (λ taken (a : ClockAnswer). a .outputs .verdict ≢ 3 → SequenceLeft (r .core) trigger (a .receiver .core .sequence)) r trigger bit
       (λ held n. idle-left (r .core) trigger)
-      (λ kind number n. rw (row-facts kind (finishedAnswer columns kind number) (idleClock (r .core) trigger .core) .sequence-stays n) (idle-left (r .core) trigger)))
+      (λ kind number n. rw (fates .sequence-stays kind number (idleClock (r .core) trigger) n) (idle-left (r .core) trigger)))
 
   advance-law : laws.AdvanceLaw columns
-  unfolding finishedAnswer
+  unfolding idleClock
   advance-law r trigger bit h =
       let f = receiver-facts r (h .0) .of-core .of-counters in
       rw (accepted r trigger bit h)
       (by-taken (λ taken (a : ClockAnswer). CountersAdvance (r .core .counters) trigger (a .outputs) (a .receiver .core .counters)) r trigger bit
-      (λ held. advance (r .core) trigger _ f (h .1) (idle-goes (idleClock (r .core) trigger) (idle-verdict (r .core) trigger)))
-      (λ kind number. advance (r .core) trigger _ f (h .1) (finished-goes kind (judged (columns kind) kind number) (idleClock (r .core) trigger))))
+      (λ held. advance (r .core) trigger _ _ f (h .1) (unmoved-counters _ _ refl))
+      (λ kind number. advance (r .core) trigger _ _ f (h .1) (fates .counters-move kind number (idleClock (r .core) trigger))))
 
   -- ---- step 3
 
   errors-law : laws.ErrorsLaw columns
-  unfolding idleClock finishedAnswer
+  unfolding idleClock
   errors-law r trigger bit =
       by-refusal Moves r trigger bit
       (λ h. by-taken (λ taken a. Moves a) r trigger bit (λ held. unmoved-errors (r .core .errors) _ refl)
-      (λ kind number. finished-moves kind (judged (columns kind) kind number) (idleClock (r .core) trigger)))
+      (λ kind number. fates .errors-move kind number (idleClock (r .core) trigger)))
       (λ n z. unmoved-errors (r .core .errors) _ refl)
     where
       Moves : ClockAnswer → Type 0
       Moves a = ErrorsMove (r .core .errors) (a .outputs) (a .receiver .core .errors)
 
   settings-law : laws.SettingsLaw columns
-  unfolding idleClock finishedAnswer
+  unfolding idleClock
   settings-law r trigger bit =
       by-refusal Moves r trigger bit
       (λ h. by-taken (λ taken a. Moves a) r trigger bit (λ held. unmoved-settings (r .core .settings) _ refl)
-      (λ kind number. finished-settings kind (judged (columns kind) kind number) (idleClock (r .core) trigger)))
+      (λ kind number. fates .settings-move kind number (idleClock (r .core) trigger)))
       (λ n z. unmoved-settings (r .core .settings) _ refl)
     where
       Moves : ClockAnswer → Type 0
       Moves a = SettingsMove (r .core .settings) (a .outputs) (a .receiver .core .settings)
 
   reset-is-fresh : laws.ResetIsFresh columns
-  unfolding finished idleClock countErrors
+  unfolding idleClock
   reset-is-fresh r trigger bit =
       by-refusal Reset r trigger bit
       (λ h. by-taken (λ taken a. Reset a) r trigger bit
       (λ held e. absurd (omega arith))
-      (λ kind number e. ap (λ (core : Core). receiver core nothingHeld) (row-facts kind (finishedAnswer columns kind number) (idleClock (r .core) trigger .core) .reset e)))
+      (λ kind number e. ap (λ (core : Core). receiver core nothingHeld) (fates .reset-is-fresh kind number (idleClock (r .core) trigger) e)))
       (λ n m e. absurd (omega arith))
     where
       Reset : ClockAnswer → Type 0
       Reset a = a .outputs .verdict ≡ 3 → a .receiver ≡ freshState (r .core .ids)
 
   ids-stay : laws.IdsStay columns
-  unfolding finished idleClock
+  unfolding idleClock
   ids-stay r trigger bit =
       by-refusal (λ (a : ClockAnswer). a .receiver .core .ids ≡ r .core .ids) r trigger bit
       (λ h. by-taken (λ taken (a : ClockAnswer). a .receiver .core .ids ≡ r .core .ids) r trigger bit
       (λ held. refl)
-      (λ kind number. row-facts kind (finishedAnswer columns kind number) (idleClock (r .core) trigger .core) .ids-stay))
+      (λ kind number. fates .ids-stay kind number (idleClock (r .core) trigger)))
       (λ n m. refl)
 
-  executed-exactly : ((kind : Kind) → FrameFacts (columns kind) kind) → laws.ExecutedExactly columns
+  executed-exactly : laws.ExecutedExactly columns
   unfolding stepAnswer idleClock
-  executed-exactly facts r trigger bit kind number h f =
+  executed-exactly r trigger bit kind number h f =
       rw (accepted r trigger bit h, f)
-      (executed-law columns facts (idleClock (r .core) trigger) kind number (finishes-frames r bit kind number (h .0) (h .2) f))
+      (fates .executed-exactly kind number (idleClock (r .core) trigger) (finishes-frames r bit kind number (h .0) (h .2) f))
+
+  laws-of : ClockLaws columns
+  laws-of = record {
+    nothing-else-refused = nothing-else-refused;
+    refused-by-2 = refused-by-2;
+    refused-by-1 = refused-by-1;
+    refused-law = refused-law;
+    stays-well-formed = stays-well-formed;
+    waits-law = waits-law;
+    fresh-waits = λ own. waits-none (freshCore own);
+    bit-law = bit-law;
+    finishes-frames = finishes-frames;
+    no-frame-law = no-frame-law;
+    verdict-zero = verdict-zero;
+    verdict-law = verdict-law;
+    waits-after = waits-after;
+    outputs-stand = outputs-stand;
+    bus-law = bus-law;
+    sequence-law = sequence-law;
+    advance-law = advance-law;
+    errors-law = errors-law;
+    settings-law = settings-law;
+    reset-is-fresh = reset-is-fresh;
+    ids-stay = ids-stay;
+    executed-exactly = executed-exactly;
+  }
 
 pub clock-theorem : ClockTheorem
-clock-theorem columns good =
-    record {
-      nothing-else-refused = nothing-else-refused columns;
-      refused-by-2 = refused-by-2 columns;
-      refused-by-1 = refused-by-1 columns;
-      refused-law = refused-law columns;
-      stays-well-formed = stays-well-formed columns;
-      waits-law = waits-law;
-      fresh-waits = λ own. waits-none (freshCore own);
-      bit-law = bit-law;
-      finishes-frames = finishes-frames;
-      no-frame-law = no-frame-law columns;
-      verdict-zero = verdict-zero columns;
-      verdict-law = verdict-law columns;
-      waits-after = waits-after columns;
-      outputs-stand = outputs-stand columns;
-      bus-law = bus-law columns;
-      sequence-law = sequence-law columns;
-      advance-law = advance-law columns;
-      errors-law = errors-law columns;
-      settings-law = settings-law columns;
-      reset-is-fresh = reset-is-fresh columns;
-      ids-stay = ids-stay columns;
-      executed-exactly = executed-exactly columns (λ kind. frame-theorem (columns kind) kind (good kind .0) (good kind .1));
-    }
+clock-theorem columns good = laws-of columns (fate-theorem columns good)
 
 pub receiver-laws : ReceiverLaws
-receiver-laws = clock-theorem columnsOf good
-  where
-    good : GoodTables columnsOf
-    good Short = (refl, short-columns-good)
-    good Long = (refl, long-columns-good)
+receiver-laws = clock-theorem columnsOf tables-good

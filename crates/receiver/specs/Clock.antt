@@ -6,14 +6,21 @@ use lib.Dec.{ltb}
 use Rattle.frame.specs.declared.Kind.{Kind}
 use Rattle.receiver_state.specs.declared.Held.{Held}
 use Rattle.receiver_state.specs.declared.Receiver.{Receiver}
-use Rattle.receiver.specs.declared.Outputs.{Outputs}
-use Rattle.receiver.specs.declared.Clocked.{Clocked}
+use Rattle.fate.specs.declared.Outputs.{Outputs}
+use Rattle.fate.specs.declared.Clocked.{Clocked}
 use Rattle.receiver.specs.declared.ClockAnswer.{ClockAnswer}
 use Rattle.receiver_state.specs.State.{receiver}
 use Rattle.receiver_state.specs.WellFormed.{wellFormed}
 use Rattle.receiver.specs.TakeBit.{takeBit, heldAfter}
 use Rattle.receiver.specs.IdleClock.{idleClock}
-use Rattle.receiver.specs.Fate.{applyFrame}
+use Rattle.receiver.specs.declared.Taken.{Taken}
+use Rattle.receiver.specs.declared.Taken.the-variants.{Unfinished, Finished}
+use Rattle.fate.specs.Fate.{finishedAnswer, finished}
+
+-- "Verdict 0: no frame finished on this clock."
+abbrev pub applyFrame : (Kind → List ℕ) → Taken → Clocked → Clocked
+applyFrame columns (Unfinished held) idle = idle
+applyFrame columns (Finished kind number) idle = finished kind (finishedAnswer columns kind number) idle
 
 abbrev pub clockedAnswer : Held → Clocked → ClockAnswer
 clockedAnswer held clocked = record { refusal = 0; receiver = receiver (clocked .core) held; outputs = clocked .outputs }

@@ -8,7 +8,7 @@ use Rattle.receiver_state.specs.declared.Counters.{Counters}
 use Rattle.receiver_state.specs.declared.Sequence.{Sequence}
 use Rattle.receiver_state.specs.declared.Core.{Core}
 use Rattle.receiver.specs.declared.Bus.{Bus}
-use Rattle.receiver.specs.declared.Clocked.{Clocked}
+use Rattle.fate.specs.declared.Clocked.{Clocked}
 use Rattle.receiver_state.specs.State.{counters, wordsLeft, noSequence, withCounters, withSequence}
 
 -- "Trigger bit 1: trigger output 1 and the event counter goes up modulo 2^24."; "The bunch counter goes up modulo 4096."

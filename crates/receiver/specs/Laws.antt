@@ -4,10 +4,8 @@ use mathlib.Core.Path.{_≡_}
 use mathlib.Core.Logic.{_≢_, _⊎_, _↔_}
 use mathlib.Core.Bool.{true, false}
 use mathlib.Core.List.{List}
-use lib.ListN.{length}
-use Rattle.hamming.specs.Correction.{GoodColumns}
 use Rattle.frame.specs.declared.Kind.{Kind}
-use Rattle.frame.specs.Numbers.{dataBits, checkBits, frameBits, isFrame}
+use Rattle.frame.specs.Numbers.{frameBits, isFrame}
 use Rattle.frame.specs.Decode.{decodeFrame}
 use Rattle.receiver_state.specs.declared.Ids.{Ids}
 use Rattle.receiver_state.specs.declared.Held.{Held}
@@ -17,10 +15,11 @@ use Rattle.receiver_state.specs.WellFormed.{wellFormed}
 use Rattle.receiver.specs.declared.Taken.the-variants.{Unfinished, Finished}
 use Rattle.receiver.specs.TakeBit.{takeBit, Waits}
 use Rattle.receiver.specs.IdleClock.{idleClock}
-use Rattle.receiver.specs.Fate.{executed, columnsOf}
+use Rattle.fate.specs.Fate.{executed, columnsOf}
 use Rattle.receiver.specs.Clock.{clockedAnswer, refusedClock, clockAnswer}
-use Rattle.receiver.specs.StepLaws.{ShowsNothing, Stands, BusShows, SequenceLeft, CountersAdvance}
-use Rattle.receiver.specs.FrameLaws.{ShowsFrame, ErrorsMove, SettingsMove, ExecutedFrame}
+use Rattle.receiver.specs.StepLaws.{ShowsNothing, BusShows, SequenceLeft, CountersAdvance}
+use Rattle.fate.specs.Laws.{GoodTables}
+use Rattle.fate.specs.FrameLaws.{Stands, ShowsFrame, ErrorsMove, SettingsMove, ExecutedFrame}
 
 -- ---- refusals
 
@@ -187,10 +186,6 @@ pub record ClockLaws (columns : Kind → List ℕ) : Type 0 where
   pub reset-is-fresh : ResetIsFresh columns
   pub ids-stay : IdsStay columns
   pub executed-exactly : ExecutedExactly columns
-
--- good columns for each kind, one for each data bit
-abbrev pub GoodTables : (Kind → List ℕ) → Type 0
-GoodTables columns = (kind : Kind) → (length (columns kind) ≡ dataBits kind) × GoodColumns (checkBits kind) (columns kind)
 
 abbrev pub ClockTheorem : Type 0
 ClockTheorem = (columns : Kind → List ℕ) → GoodTables columns → ClockLaws columns

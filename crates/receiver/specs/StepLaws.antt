@@ -5,7 +5,7 @@ use mathlib.Core.Logic.{_≢_}
 use Rattle.receiver_state.specs.declared.Counters.{Counters}
 use Rattle.receiver_state.specs.declared.Sequence.{Sequence}
 use Rattle.receiver_state.specs.declared.Core.{Core}
-use Rattle.receiver.specs.declared.Outputs.{Outputs}
+use Rattle.fate.specs.declared.Outputs.{Outputs}
 
 -- every output is 0
 pub record ShowsNothing (shown : Outputs) : Type 0 where
@@ -16,13 +16,6 @@ pub record ShowsNothing (shown : Outputs) : Type 0 where
   pub no-verdict : shown .verdict ≡ 0
   pub no-flag : shown .corrected ≡ 0
   pub no-word : shown .word ≡ 0
-
--- "the outputs of this clock stand": of two clocks, trigger output, missed flag and bus are the same
-pub record Stands (shown idle : Outputs) : Type 0 where
-  pub trigger-stands : shown .trigger ≡ idle .trigger
-  pub missed-stands : shown .missed ≡ idle .missed
-  pub strobe-stands : shown .strobe ≡ idle .strobe
-  pub number-stands : shown .number ≡ idle .number
 
 -- ---- the bus, from the state before the clock
 

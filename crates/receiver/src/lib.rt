@@ -4,34 +4,22 @@
 ghost use mathlib.Core.Path.{_≡_};
 ghost use Prim.Native.Nat.{_<_};
 ghost use Rattle.receiver_state.specs.WellFormed.{ReceiverFacts};
-ghost use Rattle.receiver.specs.Fate.{columnsOf};
-ghost use Rattle.receiver.specs.Clock.{stepAnswer, refusedClock, clockAnswer};
+ghost use Rattle.fate.specs.Fate.{columnsOf};
+ghost use Rattle.receiver.specs.Clock.{applyFrame, stepAnswer, refusedClock, clockAnswer};
 use channel_b::held_after;
 use channel_b::take_bit;
-use fate::apply_frame;
+use fate::Clocked;
+use fate::Outputs;
+use fate::finish;
 use frame::Kind;
 use idle::idle_clock;
-use receiver_state::Core;
 use receiver_state::Held;
 use receiver_state::Receiver;
 use receiver_state::Sequence;
 use receiver_state::well_formed;
 
 mod channel_b;
-mod fate;
 mod idle;
-
-// What a clock shows: trigger output and missed flag, the bus, and the frame that it finished.
-#[repr(C)]
-pub struct Outputs {
-    pub trigger: u8,
-    pub missed: u8,
-    pub strobe: u8,
-    pub number: u16,
-    pub verdict: u8,
-    pub corrected: u8,
-    pub word: u32,
-}
 
 #[repr(C)]
 pub struct ClockAnswer {
@@ -54,18 +42,6 @@ pub struct Bus {
     pub missed: u8,
 }
 
-// What a clock leaves of the core, and what it shows.
-pub struct Clocked {
-    pub core: Core,
-    pub outputs: Outputs,
-}
-
-// A row of the table of verdicts: the verdict, and the core after the effect.
-pub struct Row {
-    pub verdict: u8,
-    pub core: Core,
-}
-
 // A refused clock: the state as it came, and every output 0.
 fn refuse_clock(refusal: u8, receiver: Receiver) -> ClockAnswer
     ensures { λ r. ⌜ r ≡ refusedClock refusal receiver ⌝ }
@@ -82,6 +58,16 @@ fn refuse_clock(refusal: u8, receiver: Receiver) -> ClockAnswer
             corrected: 0,
             word: 0,
         },
+    }
+}
+
+// Where no frame finishes, steps 1 and 2 are all.
+fn apply_frame(taken: Taken, idle: Clocked) -> Clocked
+    ensures { λ r. ⌜ r ≡ applyFrame columnsOf taken idle ⌝ }
+{
+    match taken {
+        Taken::Unfinished(held) => idle,
+        Taken::Finished { kind, number } => finish(kind, number, idle),
     }
 }
 

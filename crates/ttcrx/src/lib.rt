@@ -11,7 +11,7 @@ ghost use Rattle.stored_line.specs.Write.{written, writeLine};
 ghost use Rattle.fine_delay.specs.Delay.{settingToByte, byteToSetting};
 ghost use Rattle.receiver_state.specs.State.{freshAnswer};
 ghost use Rattle.receiver_state.specs.WellFormed.{wellFormed};
-ghost use Rattle.receiver.specs.Fate.{columnsOf};
+ghost use Rattle.fate.specs.Fate.{columnsOf};
 ghost use Rattle.receiver.specs.Clock.{clockAnswer};
 use fine_delay::DelayByte;
 use fine_delay::DelaySetting;

@@ -1,0 +1,8 @@
+pub mod Keep
+mod Rows
+mod Counts
+mod Stored
+mod Cleared
+mod Verdicts
+mod Executed
+pub mod Laws
