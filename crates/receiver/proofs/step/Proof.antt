@@ -18,7 +18,13 @@ apply-frame-requires c κs = search needs
 
 returns : tie.Need-returns
 unfolding stepAnswer
-returns c = rw (c .before .before .apply-frame .ensures, c .before .before .before .held-after .ensures, c .before .before .before .before .take-bit .ensures, c .before .before .before .before .before .idle-clock .ensures)
+returns c =
+    cc (
+      c .before .before .apply-frame .ensures,
+      c .before .before .before .held-after .ensures,
+      c .before .before .before .before .take-bit .ensures,
+      c .before .before .before .before .before .idle-clock .ensures,
+    )
 
 pub step-spec : {M : Type 1} → statement M
 step-spec =
