@@ -8,10 +8,10 @@
  * written. ttcrx_well_formed alone refuses nothing and answers a plain number.
  *
  * A function that is lent characters or a buffer takes a pointer and a length in bytes. What the
- * caller must ensure: the pointer is valid for that length, for writing too where it is not const, and is
- * not null unless the length is 0; the length is at most PTRDIFF_MAX; two regions lent to one call
- * do not overlap; and while the function runs, nothing else writes those bytes, nor reads those of a
- * buffer.
+ * caller must ensure: the pointer is valid for that length, for writing too where it is not const,
+ * and is not null unless the length is 0; the length is at most PTRDIFF_MAX; two regions lent to one
+ * call do not overlap; and while the function runs, nothing else writes those bytes, nor reads those
+ * of a buffer.
  *
  * A frame is a number whose most significant bit is sent first: start bit, format bit, word, check
  * bits, stop bit. A short frame (broadcast) has 16 bits with a word of 8; a long frame
