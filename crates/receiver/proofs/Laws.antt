@@ -188,6 +188,17 @@ module _ (columns : Kind → List ℕ) (fates : FateLaws columns) where
   unfolding stepAnswer
   no-frame-law r trigger bit held h e = accepted r trigger bit h ∙ rw e refl
 
+  nothing-shown : laws.NothingShown columns
+  unfolding idleClock
+  nothing-shown r trigger bit =
+      by-refusal None r trigger bit
+      (λ h. by-taken (λ taken a. None a) r trigger bit (λ held z. (refl, refl))
+      (λ kind number z. absurd (fates .not-zero kind number (idleClock (r .core) trigger) z)))
+      (λ n m z. (refl, refl))
+    where
+      None : ClockAnswer → Type 0
+      None a = a .outputs .verdict ≡ 0 → (a .outputs .corrected ≡ 0) × (a .outputs .word ≡ 0)
+
   verdict-law : laws.VerdictLaw columns
   unfolding stepAnswer idleClock
   verdict-law r trigger bit kind number h f =
@@ -299,6 +310,7 @@ module _ (columns : Kind → List ℕ) (fates : FateLaws columns) where
     finishes-frames = finishes-frames;
     no-frame-law = no-frame-law;
     verdict-zero = verdict-zero;
+    nothing-shown = nothing-shown;
     verdict-law = verdict-law;
     waits-after = waits-after;
     outputs-stand = outputs-stand;

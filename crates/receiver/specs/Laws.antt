@@ -99,6 +99,12 @@ module _ (columns : Kind → List ℕ) where
       (r : Receiver) (trigger bit : ℕ) → Accepted r trigger bit
       → (clockAnswer columns r trigger bit .outputs .verdict ≡ 0) ↔ ((kind : Kind) (number : ℕ) → Finishes r bit kind number → ⊥)
 
+  -- "For 0, .. the flag is 0. The word shown is 0 for verdicts 0, ..": refused calls too
+  abbrev pub NothingShown : Type 0
+  NothingShown =
+      (r : Receiver) (trigger bit : ℕ) → let shown = clockAnswer columns r trigger bit .outputs in
+      shown .verdict ≡ 0 → (shown .corrected ≡ 0) × (shown .word ≡ 0)
+
   -- a finished frame has the verdict of its row, and flag and word as decoding without a receiver answers them
   abbrev pub VerdictLaw : Type 0
   VerdictLaw =
@@ -175,6 +181,7 @@ pub record ClockLaws (columns : Kind → List ℕ) : Type 0 where
   pub finishes-frames : FinishesFrames
   pub no-frame-law : NoFrameLaw columns
   pub verdict-zero : VerdictZero columns
+  pub nothing-shown : NothingShown columns
   pub verdict-law : VerdictLaw columns
   pub waits-after : WaitsAfter columns
   pub outputs-stand : OutputsStand columns

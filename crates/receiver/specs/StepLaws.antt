@@ -1,4 +1,5 @@
--- Document 01, "One clock", steps 1 and 2, as facts of what a clock shows and leaves: the words of Laws.antt.
+-- Document 01, "One clock", as facts of what a clock shows and leaves: the words of Laws.antt. Bus, sequence and counters are those of steps 1
+-- and 2, with the clears of a broadcast.
 use Prim.Native.Nat.{ℕ, _+_, _/_, _%_, _^_, _<_}
 use mathlib.Core.Path.{_≡_}
 use mathlib.Core.Logic.{_≢_}

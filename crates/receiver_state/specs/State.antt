@@ -79,7 +79,8 @@ newCore own settings status5 =
 abbrev pub freshCore : Ids → Core
 freshCore own = newCore own freshSettings 1
 
--- 01's term "fresh"; it is "waiting". `FreshLaws` of States.antt says that it is well formed, and `FreshWaits` of the crate `receiver` that it waits.
+-- 01's term "fresh"; it is "waiting". `FreshLaws` of States.antt says that it is well formed for IDs in range,
+-- and `FreshWaits` of the crate `receiver` that it waits.
 abbrev pub freshState : Ids → Receiver
 freshState own = receiver (freshCore own) nothingHeld
 
