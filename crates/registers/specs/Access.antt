@@ -1,0 +1,53 @@
+-- Document 01, "Registers" and "Numbers of refusal": one register read, and one register write.
+use Prim.Native.Nat.{ℕ}
+use mathlib.Core.Bool.{cond}
+use Rattle.receiver_state.specs.declared.Core.{Core}
+use Rattle.receiver_state.specs.declared.Receiver.{Receiver}
+use Rattle.receiver_state.specs.State.{receiver}
+use Rattle.receiver_state.specs.WellFormed.{wellFormed}
+use Rattle.registers.specs.declared.ReadAnswer.{ReadAnswer}
+use Rattle.registers.specs.declared.WriteAnswer.{WriteAnswer}
+use Rattle.registers.specs.Map.{inMap, registerByte, readOnly, configWrong, written}
+
+-- ---- read
+
+abbrev pub byteAnswer : ℕ → ℕ → ReadAnswer
+byteAnswer refusal byte = record { refusal = refusal; byte = byte }
+
+-- "A refused call returns its number with all other result fields 0"
+abbrev pub refusedRead : ℕ → ReadAnswer
+refusedRead refusal = byteAnswer refusal 0
+
+-- refusal 2, "state not well formed", "first"; 5, "register not in the map", "after 2"
+unfoldable pub readAnswer : Receiver → ℕ → ReadAnswer
+readAnswer r number =
+    cond (wellFormed r)
+    (cond (inMap number)
+    (byteAnswer 0 (registerByte (r .core) number))
+    (refusedRead 5))
+    (refusedRead 2)
+
+-- the core that a read leaves, refused or not: all of it stays
+abbrev pub afterRead : Core → ℕ → Core
+afterRead core number = core
+
+-- ---- write
+
+-- the frame bits held stay
+abbrev pub writtenTo : Receiver → Core → WriteAnswer
+writtenTo r core = record { refusal = 0; receiver = receiver core (r .held) }
+
+-- "the state unchanged where one was given"
+abbrev pub refusedWrite : ℕ → Receiver → WriteAnswer
+refusedWrite refusal r = record { refusal = refusal; receiver = r }
+
+-- refusal 2 "first"; 5 "after 2"; 6, "write to 16, 17, 18 or 22", "after 5"; 7 "after 6"
+unfoldable pub writeAnswer : Receiver → ℕ → ℕ → WriteAnswer
+writeAnswer r number value =
+    cond (wellFormed r)
+    (cond (inMap number)
+    (cond (readOnly number) (refusedWrite 6 r)
+    (cond (configWrong number value) (refusedWrite 7 r)
+    (writtenTo r (written (r .core) number value))))
+    (refusedWrite 5 r))
+    (refusedWrite 2 r)
