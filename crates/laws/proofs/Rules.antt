@@ -55,3 +55,8 @@ picked P false p q = q
 pub picked-by : {A : Type 0} (P : A → Type 0) (b : Bool) {x y : A} → (b ≡ true → P x) → (b ≡ false → P y) → P (cond b x y)
 picked-by P true p q = p refl
 picked-by P false p q = q refl
+
+-- the two ways that a test comes out
+pub by-test : {P : Type 0} (b : Bool) → (b ≡ true → P) → (b ≡ false → P) → P
+by-test true p q = p refl
+by-test false p q = q refl

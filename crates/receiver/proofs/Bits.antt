@@ -1,16 +1,20 @@
 -- Every frame is taken bit by bit. Assumes nothing.
 use mathlib.Core.Path.{_≡_, refl, sym, ap, _∙_}
-use mathlib.Core.Logic.{_≢_}
-use mathlib.Core.Bool.{Bool, true, false}
+use mathlib.Core.Logic.{_≢_, _⊎_, inl, inr}
+use mathlib.Core.Bool.{Bool, true, false, _&&_}
 use Prim.Native.Nat.{ℕ, _+_, _-_, _*_, _/_, _%_, _^_, _<_, _≤_}
 use native.Mathlib.Nat.{div-one}
 use native.Mathlib.Omega.{arith}
 use borrow.Author.Tests.{ne-eqb, eqb-true, le-ltb}
 use lib.Dec.{eqb}
 use lib.Pow.{shr-shr}
+use Rattle.laws.proofs.Rules.{picked, picked-by}
 use Rattle.frame.specs.declared.Kind.{Kind}
 use Rattle.frame.specs.declared.Kind.the-variants.{Short, Long}
 use Rattle.frame.specs.Numbers.{frameBits, isFrame}
+use Rattle.receiver_state.specs.declared.Held.{Held}
+use Rattle.receiver_state.specs.State.{holding}
+use Rattle.receiver.specs.declared.Taken.{Taken}
 use Rattle.receiver.specs.declared.Taken.the-variants.{Unfinished, Finished}
 use Rattle.receiver.specs.TakeBit.{frameOrPart, takeBit}
 use Rattle.receiver.specs.Laws.{firstBits, bitAfter, BitLaw}
@@ -74,6 +78,18 @@ last-bit kind number n e h =
     none : (w : ℕ) → number / 2 ^ (w - w) ≡ number
     none w = ap (λ (k : ℕ). number / 2 ^ k) (let z : w - w ≡ 0 = omega arith in z) ∙ div-one number
 
+-- a frame, or bits held
+abbrev MoreBits : Held → ℕ → Taken → Type 0
+MoreBits held bit taken =
+    ((kind : Kind) × (taken ≡ Finished kind (held .bits * 2 + bit))) ⊎ (taken ≡ Unfinished (holding (held .count + 1) (held .bits * 2 + bit)))
+
+later-bit : (held : Held) (bit : ℕ) → held .count ≢ 0 → MoreBits held bit (takeBit held bit)
+unfolding takeBit frameOrPart
+later-bit held bit z =
+    picked-by (MoreBits held bit) (eqb (held .count) 0) (λ e. absurd (z (eqb-true (held .count) 0 e)))
+    (λ e. picked (MoreBits held bit) (eqb (held .count + 1) 42) (inl (Long, refl))
+    (picked (MoreBits held bit) (eqb (held .count + 1) 16 && isFrame Short (held .bits * 2 + bit)) (inl (Short, refl)) (inr refl)))
+
 pub bit-law : BitLaw
 unfolding takeBit
 bit-law =
@@ -82,4 +98,5 @@ bit-law =
       start-bit = refl;
       next-bit = λ kind number n e h k. taken kind number n h (omega arith) ∙ part kind number (n + 1) e k;
       last-bit = last-bit;
+      later-bit = later-bit;
     }

@@ -188,6 +188,10 @@ module _ (columns : Kind → List ℕ) (fates : FateLaws columns) where
   unfolding stepAnswer
   no-frame-law r trigger bit held h e = accepted r trigger bit h ∙ rw e refl
 
+  frame-law : laws.FrameLaw columns
+  unfolding stepAnswer
+  frame-law r trigger bit kind number h f = accepted r trigger bit h ∙ rw f refl
+
   nothing-shown : laws.NothingShown columns
   unfolding idleClock
   nothing-shown r trigger bit =
@@ -309,6 +313,7 @@ module _ (columns : Kind → List ℕ) (fates : FateLaws columns) where
     bit-law = bit-law;
     finishes-frames = finishes-frames;
     no-frame-law = no-frame-law;
+    frame-law = frame-law;
     verdict-zero = verdict-zero;
     nothing-shown = nothing-shown;
     verdict-law = verdict-law;

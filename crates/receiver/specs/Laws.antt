@@ -1,5 +1,5 @@
 -- What holds of every clock, over the columns of each kind of frame. Proved in proofs/Laws.antt.
-use Prim.Native.Nat.{ℕ, _+_, _-_, _/_, _%_, _^_, _<_, _≤_}
+use Prim.Native.Nat.{ℕ, _+_, _-_, _*_, _/_, _%_, _^_, _<_, _≤_}
 use mathlib.Core.Path.{_≡_}
 use mathlib.Core.Logic.{_≢_, _⊎_, _↔_}
 use mathlib.Core.Bool.{true, false}
@@ -18,7 +18,7 @@ use Rattle.receiver.specs.IdleClock.{idleClock}
 use Rattle.fate.specs.Fate.{executed, columnsOf}
 use Rattle.receiver.specs.Clock.{clockedAnswer, refusedClock, clockAnswer}
 use Rattle.receiver.specs.StepLaws.{ShowsNothing, BusShows, SequenceLeft, CountersAdvance}
-use Rattle.fate.specs.Laws.{GoodTables}
+use Rattle.fate.specs.Laws.{finishedBy, GoodTables}
 use Rattle.fate.specs.FrameLaws.{Stands, ShowsFrame, ErrorsMove, SettingsMove, ExecutedFrame}
 
 -- ---- refusals
@@ -77,6 +77,10 @@ pub record BitLaw : Type 0 where
       → takeBit (firstBits kind number n) (bitAfter kind number n) ≡ Unfinished (firstBits kind number (n + 1))
   pub last-bit : (kind : Kind) (number n : ℕ) → isFrame kind number ≡ true → n + 1 ≡ frameBits kind
       → takeBit (firstBits kind number n) (bitAfter kind number n) ≡ Finished kind number
+  -- behind bits that are held, whatever they are, a bit finishes a frame or is held with them
+  pub later-bit : (held : Held) (bit : ℕ) → held .count ≢ 0
+      → ((kind : Kind) × (takeBit held bit ≡ Finished kind (held .bits * 2 + bit)))
+      ⊎ (takeBit held bit ≡ Unfinished (holding (held .count + 1) (held .bits * 2 + bit)))
 
 -- the bit finishes that frame
 abbrev pub Finishes : Receiver → ℕ → Kind → ℕ → Type 0
@@ -92,6 +96,12 @@ module _ (columns : Kind → List ℕ) where
   NoFrameLaw =
       (r : Receiver) (trigger bit : ℕ) (held : Held) → Accepted r trigger bit → takeBit (r .held) bit ≡ Unfinished held
       → clockAnswer columns r trigger bit ≡ clockedAnswer held (idleClock (r .core) trigger)
+
+  -- where one finishes, a clock is its steps 1 and 2 with the fate of that frame, and then waits
+  abbrev pub FrameLaw : Type 0
+  FrameLaw =
+      (r : Receiver) (trigger bit : ℕ) (kind : Kind) (number : ℕ) → Accepted r trigger bit → Finishes r bit kind number
+      → clockAnswer columns r trigger bit ≡ clockedAnswer nothingHeld (finishedBy columns kind number (idleClock (r .core) trigger))
 
   -- "Verdict 0: no frame finished on this clock.", and conversely
   abbrev pub VerdictZero : Type 0
@@ -180,6 +190,7 @@ pub record ClockLaws (columns : Kind → List ℕ) : Type 0 where
   pub bit-law : BitLaw
   pub finishes-frames : FinishesFrames
   pub no-frame-law : NoFrameLaw columns
+  pub frame-law : FrameLaw columns
   pub verdict-zero : VerdictZero columns
   pub nothing-shown : NothingShown columns
   pub verdict-law : VerdictLaw columns

@@ -12,7 +12,7 @@ use Rattle.receiver.specs.declared.Taken.the-variants.{Unfinished, Finis
 use Rattle.receiver_state.specs.declared.Receiver.{Receiver}
 use Rattle.receiver_state.specs.State.{holding, nothingHeld}
 
--- what that many bits, read as this number, are: a long frame has 42 bits, a short one 16, with start 0 and format 0. More than 16 are held only
+-- what that many bits, read as this number, are: a long frame has 42 bits, a short one 16, with start 0 and format 0. 16 or more are held only
 -- with format 1 ("Well formed"), so at 42 the format needs no test (`FinishesFrames` of Laws.antt).
 unfoldable pub frameOrPart : ℕ → ℕ → Taken
 frameOrPart count bits =

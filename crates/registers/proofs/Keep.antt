@@ -1,9 +1,9 @@
 -- A register write keeps the core well formed. Assumes nothing.
 use mathlib.Core.Path.{_≡_, refl}
-use mathlib.Core.Bool.{Bool, true, false, not, true≢false}
+use mathlib.Core.Bool.{false}
 use Prim.Native.Nat.{ℕ, _≤_}
 use native.Mathlib.Omega.{arith}
-use borrow.Author.Tests.{eqb-true}
+use borrow.Author.Tests.{eqb-true, not-false}
 use lib.Dec.{eqb, ltb}
 use Rattle.laws.proofs.Rules.{picked, picked-by}
 use Rattle.receiver_state.specs.declared.Settings.{Settings}
@@ -37,10 +37,6 @@ event-facts core f = counters-changed _ core (record { bunch-below = f .of-count
 
 -- ---- the write
 
-not-false : (b : Bool) → not b ≡ false → b ≡ true
-not-false true e = refl
-not-false false e = absurd (true≢false e)
-
 pub written-facts : (core : Core) (number value : ℕ) → configWrong number value ≡ false → CoreFacts core → CoreFacts (written core number value)
 unfolding written configWrong stored
 written-facts core number value e f =
@@ -59,3 +55,22 @@ written-facts core number value e f =
     (picked CoreFacts (eqb number 26) (event-facts core f)
     (picked CoreFacts (eqb number 27) (event-facts core f)
     (picked CoreFacts (eqb number 28) (event-facts core f) f)))))))))))
+
+pub written-ids : (core : Core) (number value : ℕ) → written core number value .ids ≡ core .ids
+unfolding written
+written-ids core number value =
+    picked Same (ltb number 4) refl
+    (picked Same (eqb number 8) refl
+    (picked Same (eqb number 9) refl
+    (picked Same (eqb number 10) refl
+    (picked Same (eqb number 11) refl
+    (picked Same (eqb number 20) refl
+    (picked Same (eqb number 21) refl
+    (picked Same (eqb number 24) refl
+    (picked Same (eqb number 25) refl
+    (picked Same (eqb number 26) refl
+    (picked Same (eqb number 27) refl
+    (picked Same (eqb number 28) refl refl)))))))))))
+  where
+    Same : Core → Type 0
+    Same after = after .ids ≡ core .ids

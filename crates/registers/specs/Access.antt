@@ -1,6 +1,7 @@
 -- Document 01, "Registers" and "Numbers of refusal": one register read, and one register write.
 use Prim.Native.Nat.{ℕ}
 use mathlib.Core.Bool.{cond}
+use lib.Dec.{eqb}
 use Rattle.receiver_state.specs.declared.Core.{Core}
 use Rattle.receiver_state.specs.declared.Receiver.{Receiver}
 use Rattle.receiver_state.specs.State.{receiver}
@@ -11,6 +12,10 @@ use Rattle.registers.specs.Map.{inMap, registerByte, readOnly, configWro
 
 -- ---- read
 
+-- of a state that is well formed: refusal 5, "register not in the map", "after 2"
+unfoldable pub readRefusal : ℕ → ℕ
+readRefusal number = cond (inMap number) 0 5
+
 abbrev pub byteAnswer : ℕ → ℕ → ReadAnswer
 byteAnswer refusal byte = record { refusal = refusal; byte = byte }
 
@@ -18,13 +23,11 @@ byteAnswer refusal byte = record { refusal = refusal; byte = byte }
 abbrev pub refusedRead : ℕ → ReadAnswer
 refusedRead refusal = byteAnswer refusal 0
 
--- refusal 2, "state not well formed", "first"; 5, "register not in the map", "after 2"
+-- refusal 2, "state not well formed", "first"
 unfoldable pub readAnswer : Receiver → ℕ → ReadAnswer
 readAnswer r number =
     cond (wellFormed r)
-    (cond (inMap number)
-    (byteAnswer 0 (registerByte (r .core) number))
-    (refusedRead 5))
+    (cond (eqb (readRefusal number) 0) (byteAnswer 0 (registerByte (r .core) number)) (refusedRead (readRefusal number)))
     (refusedRead 2)
 
 -- the core that a read leaves, refused or not: all of it stays
@@ -32,6 +35,15 @@ abbrev pub afterRead : Core → ℕ → Core
 afterRead core number = core
 
 -- ---- write
+
+-- of a state that is well formed: 5 "after 2"; 6, "write to 16, 17, 18 or 22", "after 5"; 7 "after 6"
+unfoldable pub writeRefusal : ℕ → ℕ → ℕ
+writeRefusal number value =
+    cond (inMap number)
+    (cond (readOnly number) 6
+    (cond (configWrong number value) 7
+    0))
+    5
 
 -- the frame bits held stay
 abbrev pub writtenTo : Receiver → Core → WriteAnswer
@@ -41,13 +53,9 @@ writtenTo r core = record { refusal = 0; receiver = receiver core (r .held) }
 abbrev pub refusedWrite : ℕ → Receiver → WriteAnswer
 refusedWrite refusal r = record { refusal = refusal; receiver = r }
 
--- refusal 2 "first"; 5 "after 2"; 6, "write to 16, 17, 18 or 22", "after 5"; 7 "after 6"
+-- refusal 2 "first"
 unfoldable pub writeAnswer : Receiver → ℕ → ℕ → WriteAnswer
 writeAnswer r number value =
     cond (wellFormed r)
-    (cond (inMap number)
-    (cond (readOnly number) (refusedWrite 6 r)
-    (cond (configWrong number value) (refusedWrite 7 r)
-    (writtenTo r (written (r .core) number value))))
-    (refusedWrite 5 r))
+    (cond (eqb (writeRefusal number value) 0) (writtenTo r (written (r .core) number value)) (refusedWrite (writeRefusal number value) r))
     (refusedWrite 2 r)

@@ -1,4 +1,4 @@
--- Document 01, "Registers": the table. Reads and writes see and change the core alone.
+-- Document 01, "Registers": the table. Of a well-formed state, reads see and writes change the core alone.
 use Prim.Native.Nat.{ℕ, _*_, _/_, _%_, _^_}
 use mathlib.Core.Bool.{Bool, false, cond, not, _||_}
 use mathlib.Core.List.{List, [], _∷_}
@@ -14,15 +14,16 @@ unfoldable pub oneOf : List ℕ → ℕ → Bool
 oneOf [] n = false
 oneOf (x ∷ xs) n = eqb n x || oneOf xs n
 
-unfoldable pub inMap : ℕ → Bool
-inMap number =
-    oneOf
-    (0 ∷ 1 ∷ 2 ∷ 3
+abbrev pub mapNumbers : List ℕ
+mapNumbers =
+    0 ∷ 1 ∷ 2 ∷ 3
     ∷ 8 ∷ 9 ∷ 10 ∷ 11
     ∷ 16 ∷ 17 ∷ 18
     ∷ 20 ∷ 21 ∷ 22
-    ∷ 24 ∷ 25 ∷ 26 ∷ 27 ∷ 28 ∷ [])
-    number
+    ∷ 24 ∷ 25 ∷ 26 ∷ 27 ∷ 28 ∷ []
+
+unfoldable pub inMap : ℕ → Bool
+inMap number = oneOf mapNumbers number
 
 -- ---- column "holds"
 

@@ -1,0 +1,48 @@
+-- Lists of calls that compute. Assumes nothing.
+use mathlib.Core.Path.{_≡_, refl, sym, _∙_}
+use Prim.Native.Nat.{ℕ}
+use native.Mathlib.Omega.{arith}
+use lib.Count.{ones}
+use Rattle.laws.specs.Tests.{every}
+use Rattle.laws.specs.LowestOne.{lowestOne}
+use Rattle.hamming.specs.Code.{checkNumber, syndrome, firstFrom, bySyndrome, decodeWord}
+use Rattle.frame.specs.Numbers.{isFrame}
+use Rattle.frame.specs.Decode.{judged}
+use Rattle.receiver_state.specs.WellFormed.{idsOk, settingsOk, countersOk, sequenceOk, coreOk, heldOk, wellFormed}
+use Rattle.fate.specs.Fate.{columnsOf, upTo, doubleUp, cleared, stored, fate, countErrors, finished, finishedAnswer}
+use Rattle.receiver.specs.TakeBit.{frameOrPart, takeBit}
+use Rattle.receiver.specs.IdleClock.{countClock, continued, started, busStep, idleClock}
+use Rattle.receiver.specs.Clock.{stepAnswer, clockAnswer}
+use Rattle.registers.specs.Map.{oneOf, inMap, registerByte, readOnly, configWrong, written}
+use Rattle.registers.specs.Access.{readRefusal, readAnswer, writeRefusal, writeAnswer}
+use Rattle.guarantees.specs.Calls.{call, run, answers, refusalOf, carried, channelB}
+use Rattle.guarantees.specs.FrameLists.{bitsOf, ones as onesOf}
+use Rattle.guarantees.specs.Existence.{carry}
+use Rattle.guarantees.specs.Examples.{TwentyCalls, started as started-receiver, idleClocks, FortyOnes}
+
+pub twenty-calls : TwentyCalls
+unfolding ones lowestOne checkNumber syndrome firstFrom bySyndrome decodeWord isFrame judged every idsOk settingsOk countersOk sequenceOk coreOk heldOk wellFormed upTo doubleUp cleared stored fate countErrors finished finishedAnswer frameOrPart takeBit countClock continued started busStep idleClock stepAnswer clockAnswer oneOf inMap registerByte readOnly configWrong written readRefusal readAnswer writeRefusal writeAnswer call run answers refusalOf carried channelB bitsOf carry
+twenty-calls =
+    record {
+      frame-is = refl;
+      carries = refl;
+      idle = record { tells = refl; leaves = refl };
+      clean = record { tells = refl; leaves = refl };
+      one-flip = record { tells = refl; leaves = refl };
+      two-flips = record { tells = refl; leaves = refl };
+      three-flips = record { tells = refl; leaves = refl };
+    }
+
+holds-41 : run columnsOf started-receiver (idleClocks 40) .held .count ≡ 41
+unfolding isFrame every idsOk settingsOk countersOk sequenceOk coreOk heldOk wellFormed frameOrPart takeBit countClock continued started busStep idleClock stepAnswer clockAnswer call run
+holds-41 = refl
+
+pub forty-ones : FortyOnes
+unfolding every idsOk settingsOk countersOk sequenceOk coreOk heldOk wellFormed refusalOf carried channelB onesOf
+forty-ones =
+    record {
+      well-formed = refl;
+      forty = refl;
+      holds-41 = holds-41;
+      waits-not = λ w. let z : _≡_ {A = ℕ} 41 0 = sym holds-41 ∙ w .none-held in omega arith;
+    }

@@ -1,0 +1,153 @@
+-- The frame bits held over a list of bits of channel B: 41 ones, and the bits of a frame. Assumes nothing.
+use mathlib.Core.Path.{_≡_, refl, sym, ap, subst, _∙_}
+use mathlib.Core.Logic.{_≢_, _⊎_, inl, inr}
+use mathlib.Core.Bool.{true, false}
+use mathlib.Core.List.{List, [], _∷_, _++_}
+use Prim.Native.Nat.{ℕ, zero, suc, _+_, _-_, _*_, _/_, _%_, _^_, _≤_, _<_}
+use native.Mathlib.Nat.{div-one}
+use native.Mathlib.Omega.{arith}
+use borrow.Author.Tests.{eqb-true, eqb-false, ltb-true}
+use lib.Dec.{eqb}
+use lib.Pow.{shr-shr}
+use Rattle.laws.proofs.Rules.{by-test}
+use Rattle.frame.specs.declared.Kind.{Kind}
+use Rattle.frame.specs.declared.Kind.the-variants.{Short, Long}
+use Rattle.frame.specs.Numbers.{frameBits, isFrame}
+use Rattle.receiver_state.specs.declared.Held.{Held}
+use Rattle.receiver_state.specs.State.{holding, nothingHeld}
+use Rattle.receiver_state.specs.WellFormed.{HeldFacts}
+use Rattle.receiver_state.proofs.HeldBits.{none-facts}
+use Rattle.receiver.specs.declared.Taken.{Taken}
+use Rattle.receiver.specs.declared.Taken.the-variants.{Unfinished, Finished}
+use Rattle.receiver.specs.TakeBit.{takeBit, heldAfter}
+use Rattle.receiver.specs.Laws.{firstBits, bitAfter}
+use Rattle.receiver.proofs.TakeBit.{TakenFacts, taken-facts}
+use Rattle.receiver.proofs.Bits.{bit-law}
+use Rattle.guarantees.specs.FrameLists.{bitsOf, ones}
+
+-- ---- the bits held after a list of bits
+
+unfoldable pub heldOver : Held → List ℕ → Held
+heldOver held [] = held
+heldOver held (b ∷ bs) = heldOver (heldAfter (takeBit held b)) bs
+
+pub held-append : (held : Held) (xs ys : List ℕ) → heldOver held (xs ++ ys) ≡ heldOver (heldOver held xs) ys
+unfolding heldOver
+held-append held [] ys = refl
+held-append held (x ∷ xs) ys = held-append (heldAfter (takeBit held x)) xs ys
+
+pub after-facts : (held : Held) (bit : ℕ) → HeldFacts held → bit < 2 → HeldFacts (heldAfter (takeBit held bit))
+after-facts held bit f b = go (takeBit held bit) (taken-facts held bit f b)
+  where
+    go : (taken : Taken) → TakenFacts taken → HeldFacts (heldAfter taken)
+    go (Unfinished after) h = h
+    go (Finished kind number) h = none-facts
+
+-- every entry is a bit
+abbrev pub Bits : List ℕ → Type 0
+Bits [] = Unit {0}
+Bits (b ∷ bs) = (b < 2) × Bits bs
+
+pub over-facts : (bs : List ℕ) (held : Held) → Bits bs → HeldFacts held → HeldFacts (heldOver held bs)
+unfolding heldOver
+over-facts [] held p f = f
+over-facts (b ∷ bs) held (p, q) f = over-facts bs (heldAfter (takeBit held b)) q (after-facts held b f p)
+
+-- ---- ones
+
+none-held : (count bits : ℕ) → count ≡ 0 → HeldFacts (holding count bits) → holding count bits ≡ nothingHeld
+none-held zero bits z f = ap (holding 0) (let s : bits * 2 < 2 ^ 0 = f .start in omega arith)
+none-held (suc count) bits z f = absurd (omega arith)
+
+-- k ones are enough for a receiver that waits, and for one that holds 42 - k bits
+abbrev Near : ℕ → Held → Type 0
+Near k held = (held .count ≡ 0) ⊎ (42 ≤ k + held .count)
+
+nearer : (k : ℕ) (held : Held) → HeldFacts held → Near (suc k) held → Near k (heldAfter (takeBit held 1))
+nearer k held f near = by-test (eqb (held .count) 0) (λ t. waiting (eqb-true (held .count) 0 t)) (λ t. later near (eqb-false (held .count) 0 t))
+  where
+    waiting : held .count ≡ 0 → Near k (heldAfter (takeBit held 1))
+    waiting z = rw (none-held (held .count) (held .bits) z f, bit-law .idle-bit) (inl refl)
+
+    grown : 42 ≤ suc k + held .count
+        → ((kind : Kind) × (takeBit held 1 ≡ Finished kind (held .bits * 2 + 1))) ⊎ (takeBit held 1 ≡ Unfinished (holding (held .count + 1) (held .bits * 2 + 1)))
+        → Near k (heldAfter (takeBit held 1))
+    grown h (inl (kind, e)) = rw e (inl refl)
+    grown h (inr e) = rw e (inr (omega arith))
+
+    later : Near (suc k) held → held .count ≢ 0 → Near k (heldAfter (takeBit held 1))
+    later (inl z) n = absurd (n z)
+    later (inr h) n = grown h (bit-law .later-bit held 1 n)
+
+ones-wait : (k : ℕ) (held : Held) → HeldFacts held → Near k held → heldOver held (ones k) ≡ nothingHeld
+unfolding heldOver ones
+ones-wait zero held f (inl z) = none-held (held .count) (held .bits) z f
+ones-wait zero held f (inr h) = absurd (omega (arith, f .few))
+ones-wait (suc k) held f near = ones-wait k (heldAfter (takeBit held 1)) (after-facts held 1 f (omega arith)) (nearer k held f near)
+
+pub forty-one : (held : Held) → HeldFacts held → heldOver held (ones 41) ≡ nothingHeld
+forty-one held f =
+    ones-wait 41 held f
+    (by-test (eqb (held .count) 0) (λ t. inl (eqb-true (held .count) 0 t))
+    (λ t. let n : held .count ≢ 0 = eqb-false (held .count) 0 t in inr (omega arith)))
+
+-- ---- the bits of a frame
+
+-- the bits are taken, no frame finishes, and then `after` is held
+abbrev pub Holds : Held → List ℕ → Held → Type 0
+Holds held [] after = held ≡ after
+Holds held (b ∷ bs) after = (next : Held) × (takeBit held b ≡ Unfinished next) × Holds next bs after
+
+pub holds-append : (xs ys : List ℕ) (held after : Held) → Holds held (xs ++ ys) after → (between : Held) × Holds held xs between × Holds between ys after
+holds-append [] ys held after h = (held, refl, h)
+holds-append (x ∷ xs) ys held after (next, e, h) = let r = holds-append xs ys next after h in (r .0, (next, e, r .1), r .2)
+
+holds-one-more : (bs : List ℕ) (b : ℕ) (held between after : Held) → Holds held bs between → takeBit between b ≡ Unfinished after → Holds held (bs ++ (b ∷ [])) after
+holds-one-more [] b held between after h e = (after, rw h e, refl)
+holds-one-more (c ∷ bs) b held between after (next, t, h) e = (next, t, holds-one-more bs b next between after h e)
+
+-- the start bit is 0, so the number has nothing at its place
+start-zero : (kind : Kind) (number : ℕ) → isFrame kind number ≡ true → number / 2 ^ (frameBits kind - 1) ≡ 0
+unfolding isFrame
+start-zero Short number e = let h : number < 2 ^ 14 = ltb-true number (2 ^ 14) e in omega arith
+start-zero Long number e = let h : number / 2 ^ 40 ≡ 1 = eqb-true (number / 2 ^ 40) 1 e in omega arith
+
+half : (number w n : ℕ) → suc n ≤ w → number / 2 ^ (w - suc n) / 2 ≡ number / 2 ^ (w - n)
+half number w n h =
+    let e : w - n ≡ (w - suc n) + 1 = omega arith in
+    shr-shr number (w - suc n) 1 ∙ ap (λ (k : ℕ). number / 2 ^ k) (sym e)
+
+first-held : (kind : Kind) (number : ℕ) → isFrame kind number ≡ true → (n : ℕ) → suc n < frameBits kind
+    → Holds nothingHeld (bitsOf (suc n) (number / 2 ^ (frameBits kind - suc n))) (firstBits kind number (suc n))
+unfolding bitsOf
+first-held kind number e zero h = rw (start-zero kind number e) (holding 1 0, bit-law .start-bit, refl)
+first-held kind number e (suc n) h =
+    let next : takeBit (firstBits kind number (suc n)) (bitAfter kind number (suc n)) ≡ Unfinished (firstBits kind number (suc n + 1)) =
+    bit-law .next-bit kind number (suc n) e (omega arith) (omega arith) in
+    let count : suc n + 1 ≡ suc (suc n) = omega arith in
+    holds-one-more (bitsOf (suc n) (number / 2 ^ (frameBits kind - suc (suc n)) / 2)) (number / 2 ^ (frameBits kind - suc (suc n)) % 2)
+    nothingHeld (firstBits kind number (suc n)) (firstBits kind number (suc (suc n)))
+    (rw (half number (frameBits kind) (suc n) (omega arith)) (first-held kind number e n (omega arith)))
+    (rw count at next)
+
+-- all but the last
+abbrev pub lead : Kind → ℕ
+lead Short = 15
+lead Long = 41
+
+pub by-lead : (kind : Kind) (number : ℕ) → bitsOf (frameBits kind) number ≡ bitsOf (lead kind) (number / 2) ++ (number % 2 ∷ [])
+unfolding bitsOf
+by-lead Short number = refl
+by-lead Long number = refl
+
+pub lead-held : (kind : Kind) (number : ℕ) → isFrame kind number ≡ true
+    → Holds nothingHeld (bitsOf (lead kind) (number / 2)) (firstBits kind number (lead kind))
+lead-held Short number e = first-held Short number e 14 (omega arith)
+lead-held Long number e = first-held Long number e 40 (omega arith)
+
+pub last-held : (kind : Kind) (number : ℕ) → isFrame kind number ≡ true → takeBit (firstBits kind number (lead kind)) (number % 2) ≡ Finished kind number
+last-held kind number e = ap (λ (x : ℕ). takeBit (firstBits kind number (lead kind)) (x % 2)) (sym (div-one number)) ∙ by-kind kind number e
+  where
+    by-kind : (kind : Kind) (number : ℕ) → isFrame kind number ≡ true → takeBit (firstBits kind number (lead kind)) (number / 1 % 2) ≡ Finished kind number
+    by-kind Short number e = bit-law .last-bit Short number 15 e refl
+    by-kind Long number e = bit-law .last-bit Long number 41 e refl

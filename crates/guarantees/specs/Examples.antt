@@ -1,0 +1,107 @@
+-- Lists of calls that compute, from the fresh state of ID 5 and I2C ID 5. Proved in proofs/Examples.antt.
+use Prim.Native.Nat.{ℕ, zero, suc}
+use mathlib.Core.Path.{_≡_}
+use mathlib.Core.Bool.{true}
+use mathlib.Core.List.{List, [], _∷_, _++_, map}
+use Rattle.hamming.specs.declared.WrongBit.the-variants.{Data, Check}
+use Rattle.frame.specs.declared.Kind.the-variants.{Short}
+use Rattle.frame.specs.Numbers.{frameBits}
+use Rattle.frame.specs.Encode.{broadcast, encodeFields}
+use Rattle.frame.specs.Frames.{flipProtected}
+use Rattle.receiver_state.specs.declared.Receiver.{Receiver}
+use Rattle.receiver_state.specs.State.{ids, holding, receiver, freshCore, freshState}
+use Rattle.receiver_state.specs.WellFormed.{wellFormed}
+use Rattle.fate.specs.Fate.{columnsOf}
+use Rattle.receiver.specs.TakeBit.{Waits}
+use Rattle.guarantees.specs.Calls.{Call, clock, read, write, CallAnswer, run, answers, channelB}
+use Rattle.guarantees.specs.FrameLists.{bitsOf, ones}
+use Rattle.guarantees.specs.Existence.{carry}
+
+-- ---- twenty calls that carry a broadcast
+
+-- 16 clocks with channel B idle, two of them with a trigger; a clock that is refused by 1, a read, a write of the control register, and a write that is
+-- refused by 5
+abbrev pub pattern : List Call
+pattern =
+    clock 1 1 ∷ clock 2 1 ∷ clock 0 1 ∷ read 26 ∷ clock 0 1 ∷ write 3 1 ∷ clock 1 1 ∷ write 99 1
+    ∷ clock 0 1 ∷ clock 0 1 ∷ clock 0 1 ∷ clock 0 1 ∷ clock 0 1 ∷ clock 0 1
+    ∷ clock 0 1 ∷ clock 0 1 ∷ clock 0 1 ∷ clock 0 1 ∷ clock 0 1 ∷ clock 0 1 ∷ []
+
+abbrev pub start : Receiver
+start = freshState (ids 5 5)
+
+abbrev pub sending : ℕ → List Call
+sending number = carry (bitsOf (frameBits Short) number) pattern
+
+-- the broadcast of byte 1, which clears the bunch counter: 004F
+abbrev pub frame : ℕ
+frame = encodeFields (columnsOf Short) Short (broadcast 1)
+
+-- single errors, double errors, status bit 5, bunch count, event count, control, frame bits held
+abbrev pub left : Receiver → List ℕ
+left r =
+    r .core .errors .single ∷ r .core .errors .double ∷ r .core .errors .status5
+    ∷ r .core .counters .bunch ∷ r .core .counters .event ∷ r .core .settings .control ∷ r .held .count ∷ []
+
+-- refusal, byte, trigger output, missed flag, strobe, number on the bus, verdict, corrected flag, word
+abbrev pub told : CallAnswer → List ℕ
+told a =
+    a .refusal ∷ a .byte ∷ a .outputs .trigger ∷ a .outputs .missed ∷ a .outputs .strobe ∷ a .outputs .number
+    ∷ a .outputs .verdict ∷ a .outputs .corrected ∷ a .outputs .word ∷ []
+
+abbrev nothing : List ℕ
+nothing = 0 ∷ 0 ∷ 0 ∷ 0 ∷ 0 ∷ 0 ∷ 0 ∷ 0 ∷ 0 ∷ []
+
+-- the calls of the pattern before the last: bunch 0, event low 0 and event high 0 after the first trigger (mode 3); with control 1 (mode 1) bunch 3
+-- after the second
+abbrev pub toldBefore : List (List ℕ)
+toldBefore =
+    (0 ∷ 0 ∷ 1 ∷ 0 ∷ 1 ∷ 0 ∷ 0 ∷ 0 ∷ 0 ∷ [])
+    ∷ (1 ∷ 0 ∷ 0 ∷ 0 ∷ 0 ∷ 0 ∷ 0 ∷ 0 ∷ 0 ∷ [])
+    ∷ (0 ∷ 0 ∷ 0 ∷ 0 ∷ 2 ∷ 0 ∷ 0 ∷ 0 ∷ 0 ∷ [])
+    ∷ (0 ∷ 1 ∷ 0 ∷ 0 ∷ 0 ∷ 0 ∷ 0 ∷ 0 ∷ 0 ∷ [])
+    ∷ (0 ∷ 0 ∷ 0 ∷ 0 ∷ 3 ∷ 0 ∷ 0 ∷ 0 ∷ 0 ∷ [])
+    ∷ nothing
+    ∷ (0 ∷ 0 ∷ 1 ∷ 0 ∷ 1 ∷ 3 ∷ 0 ∷ 0 ∷ 0 ∷ [])
+    ∷ (5 ∷ 0 ∷ 0 ∷ 0 ∷ 0 ∷ 0 ∷ 0 ∷ 0 ∷ 0 ∷ [])
+    ∷ nothing ∷ nothing ∷ nothing ∷ nothing ∷ nothing ∷ nothing ∷ nothing ∷ nothing ∷ nothing ∷ nothing ∷ nothing ∷ []
+
+-- what the twenty calls tell and leave
+pub record Gives (calls : List Call) (last state : List ℕ) : Type 0 where
+  pub tells : map told (answers columnsOf start calls) ≡ toldBefore ++ (last ∷ [])
+  pub leaves : left (run columnsOf start calls) ≡ state
+
+pub record TwentyCalls : Type 0 where
+  pub frame-is : frame ≡ 0x004F
+  pub carries : channelB (sending frame) ≡ 0 ∷ 0 ∷ 0 ∷ 0 ∷ 0 ∷ 0 ∷ 0 ∷ 0 ∷ 0 ∷ 1 ∷ 0 ∷ 0 ∷ 1 ∷ 1 ∷ 1 ∷ 1 ∷ []
+  -- idle: 16 clocks, two triggers
+  pub idle : Gives pattern nothing (0 ∷ 0 ∷ 1 ∷ 16 ∷ 2 ∷ 1 ∷ 0 ∷ [])
+  -- clean: verdict 1, word 1, and the bunch counter cleared
+  pub clean : Gives (sending frame) (0 ∷ 0 ∷ 0 ∷ 0 ∷ 0 ∷ 0 ∷ 1 ∷ 0 ∷ 1 ∷ []) (0 ∷ 0 ∷ 1 ∷ 0 ∷ 2 ∷ 1 ∷ 0 ∷ [])
+  -- one flip: the same with flag 1 and one single error
+  pub one-flip : Gives (sending (flipProtected Short (Data 7) frame)) (0 ∷ 0 ∷ 0 ∷ 0 ∷ 0 ∷ 0 ∷ 1 ∷ 1 ∷ 1 ∷ []) (1 ∷ 0 ∷ 1 ∷ 0 ∷ 2 ∷ 1 ∷ 0 ∷ [])
+  -- two flips: verdict 8, the idle list's state with one double error
+  pub two-flips : Gives (sending (flipProtected Short (Check 0) (flipProtected Short (Data 7) frame)))
+      (0 ∷ 0 ∷ 0 ∷ 0 ∷ 0 ∷ 0 ∷ 8 ∷ 0 ∷ 0 ∷ []) (0 ∷ 1 ∷ 1 ∷ 16 ∷ 2 ∷ 1 ∷ 0 ∷ [])
+  -- three flips, which nothing is claimed of: the broadcast of byte 0, sent with data bits 0, 1 and 2 flipped, is taken for that of byte 7 with a wrong
+  -- check bit, is executed, and clears both counters
+  pub three-flips : Gives
+      (sending (flipProtected Short (Data 2) (flipProtected Short (Data 1) (flipProtected Short (Data 0) (encodeFields (columnsOf Short) Short (broadcast 0))))))
+      (0 ∷ 0 ∷ 0 ∷ 0 ∷ 0 ∷ 0 ∷ 1 ∷ 1 ∷ 7 ∷ []) (1 ∷ 0 ∷ 1 ∷ 0 ∷ 0 ∷ 1 ∷ 0 ∷ [])
+
+-- ---- 41 is tight
+
+-- a receiver that has just taken a start bit
+abbrev pub started : Receiver
+started = receiver (freshCore (ids 5 5)) (holding 1 0)
+
+abbrev pub idleClocks : ℕ → List Call
+idleClocks zero = []
+idleClocks (suc n) = clock 0 1 ∷ idleClocks n
+
+-- 40 ones are not enough: 41 bits of a long frame are held then
+pub record FortyOnes : Type 0 where
+  pub well-formed : wellFormed started ≡ true
+  pub forty : channelB (idleClocks 40) ≡ ones 40
+  pub holds-41 : run columnsOf started (idleClocks 40) .held .count ≡ 41
+  pub waits-not : Waits (run columnsOf started (idleClocks 40)) → ⊥

@@ -1,0 +1,6 @@
+pub mod Calls
+pub mod FrameLists
+pub mod LastClock
+pub mod Demand3
+pub mod Existence
+pub mod Examples
