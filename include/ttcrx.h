@@ -1,6 +1,6 @@
 /*
  * The C interface of the TTCrx model, libttcrx.a: frames, stored lines, fine delays, and the
- * receiver, clock by clock.
+ * receiver, clock by clock, with register accesses between clocks.
  *
  * Every function takes every value of its arguments. Each answer begins with the number of refusal
  * of document 01, the customer's scope paper: 0 is success; else every other field of the answer is
@@ -157,6 +157,18 @@ typedef struct ttcrx_clock_answer {
     ttcrx_outputs outputs;
 } ttcrx_clock_answer;
 
+/* The answer of a register read. */
+typedef struct ttcrx_read_answer {
+    uint8_t refusal;
+    uint8_t byte;
+} ttcrx_read_answer;
+
+/* The answer of a register write. */
+typedef struct ttcrx_write_answer {
+    uint8_t refusal;
+    ttcrx_receiver receiver; /* the state after the write; with a refusal, the state as given */
+} ttcrx_write_answer;
+
 /* The short frame of a byte. Refuses nothing. */
 ttcrx_encoded ttcrx_encode_short(uint8_t data);
 
@@ -208,6 +220,19 @@ ttcrx_fresh_answer ttcrx_fresh(uint16_t id, uint8_t i2c);
  * this order: 2: a state that is not well formed; 1: a bit over 1.
  */
 ttcrx_clock_answer ttcrx_clock(ttcrx_receiver receiver, uint8_t trigger, uint8_t data);
+
+/*
+ * The byte that a register holds; the state stays as it is. Refusals, in this order: 2: a state that
+ * is not well formed; 5: a register that is not in the map.
+ */
+ttcrx_read_answer ttcrx_read(ttcrx_receiver receiver, uint8_t number);
+
+/*
+ * Writes a byte to a register. Refusals, in this order: 2: a state that is not well formed; 5: a
+ * register that is not in the map; 6: register 16, 17, 18 or 22; 7: register 20 or 21, and a byte
+ * that differs from the fresh one in bits 6 to 0.
+ */
+ttcrx_write_answer ttcrx_write(ttcrx_receiver receiver, uint8_t number, uint8_t value);
 
 #ifdef __cplusplus
 }

@@ -6,7 +6,6 @@ ghost use mathlib.Core.Path.{_≡_};
 ghost use mathlib.Core.Logic.{_≢_};
 ghost use mathlib.Core.Bool.{cond};
 ghost use lib.Dec.{eqb};
-ghost use Prim.Native.Nat.{_<_};
 ghost use Rattle.frame.specs.declared.Kind.the-variants.{Long};
 ghost use Rattle.receiver_state.specs.State.{withSettings, withCounters};
 ghost use Rattle.fate.specs.Fate.{row, upTo, doubleUp, cleared, stored, foreign, countErrors, columnsOf, finishedAnswer, fate, finished};
@@ -138,9 +137,8 @@ fn clear_counters(byte: u8, core: Core) -> Core
     next
 }
 
-// A byte goes to register 0, 1, 2 or 3.
+// A byte goes to register 0, 1, 2 or 3; any other number changes nothing.
 fn store_in(sub: u8, byte: u8, settings: Settings) -> Settings
-    requires { ⌜ sub < 4 ⌝ }
     ensures { λ r. ⌜ r ≡ stored sub byte settings ⌝ }
 {
     let mut next = settings;
@@ -157,15 +155,16 @@ fn store_in(sub: u8, byte: u8, settings: Settings) -> Settings
             next.coarse = byte;
             next
         }
-        _ => {
+        3 => {
             next.control = byte;
             next
         }
+        _ => next,
     }
 }
 
-fn store_byte(sub: u8, byte: u8, core: Core) -> Core
-    requires { ⌜ sub < 4 ⌝ }
+// The core with a byte in register 0, 1, 2 or 3, as row 2 of the table and a register write store it.
+pub fn store_byte(sub: u8, byte: u8, core: Core) -> Core
     ensures { λ r. ⌜ r ≡ withSettings (stored sub byte (core .settings)) core ⌝ }
 {
     let settings = store_in(sub, byte, core.settings);

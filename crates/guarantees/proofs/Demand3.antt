@@ -1,7 +1,7 @@
 -- Demand 3 over lists of calls. Assumes nothing.
 use mathlib.Core.Path.{_≡_, refl, sym, ap, subst, _∙_}
 use mathlib.Core.Logic.{_≢_}
-use mathlib.Core.Bool.{true, false, true≢false}
+use mathlib.Core.Bool.{true}
 use mathlib.Core.List.{List, [], _∷_, _++_, map, append-assoc}
 use Prim.Native.Nat.{ℕ, _/_, _%_}
 use native.Mathlib.Omega.{arith}
@@ -9,15 +9,14 @@ use lib.Dec.{eqb}
 use lib.ListN.{length, length-append}
 use borrow.Author.Tests.{eqb-true}
 use Rattle.laws.proofs.Rules.{by-test, picked, picked-by}
-use Rattle.hamming.specs.declared.WrongBit.{WrongBit}
 use Rattle.frame.specs.declared.Kind.{Kind}
 use Rattle.frame.specs.declared.Fields.{Fields}
 use Rattle.frame.specs.declared.Answer.{Answer}
 use Rattle.frame.specs.declared.Encoded.{Encoded}
 use Rattle.frame.specs.Numbers.{frameBits, isFrame}
 use Rattle.frame.specs.Encode.{wordOf, encodeFields}
-use Rattle.frame.specs.Decode.{bareAnswer, decodeFrame}
-use Rattle.frame.specs.Frames.{InRange, flipProtected, ProtectedIn, fieldsAnswer, FrameFacts}
+use Rattle.frame.specs.Decode.{decodeFrame}
+use Rattle.frame.specs.Frames.{InRange, flipProtected, fieldsAnswer, FrameFacts}
 use Rattle.frame.proofs.Frames.{frame-theorem}
 use Rattle.frame.proofs.Words.{word-fits}
 use Rattle.receiver_state.specs.declared.Core.{Core}
@@ -41,12 +40,12 @@ use Rattle.registers.specs.declared.ReadAnswer.{ReadAnswer}
 use Rattle.registers.specs.Access.{readRefusal, readAnswer, writeRefusal, writeAnswer}
 use Rattle.registers.proofs.Laws.{write-laws}
 use Rattle.guarantees.specs.Calls.{Call, clock, read, write, CallAnswer, CallResult, result, call, run, answers, refusalOf, carried, channelB, idleCall, idle}
-use Rattle.guarantees.specs.FrameLists.{bitsOf, ones, Sends, SameCalls, lastCall, QuietBefore, WholeList}
-use Rattle.guarantees.specs.LastClock.{withFrame, withCorrection, withDoubleError, CleanLast, CorrectedLast, UncorrectableLast}
+use Rattle.guarantees.specs.FrameLists.{bitsOf, ones, Sends, lastCall, QuietBefore}
+use Rattle.guarantees.specs.LastClock.{withFrame, withCorrection, withDoubleError}
 use Rattle.guarantees.specs.Demand3 as demand
 use Rattle.guarantees.proofs.HeldBits.{heldOver, held-append, Bits, over-facts, forty-one, Holds, lead, by-lead, lead-held, last-held}
 use Rattle.guarantees.proofs.OneCall.{accepted-bits, holding-none, refuses, keeps, finished-clock, holds-after}
-use Rattle.guarantees.proofs.Beside.{idle-clock, Follows, follows}
+use Rattle.guarantees.proofs.Beside.{idle-clock, follows}
 use Rattle.guarantees.proofs.LastClock.{corrected-last, uncorrectable-last, corrected-frame, uncorrectable-frame}
 use Rattle.guarantees.proofs.CleanLast.{waits-none, DecodesTo, clean-last}
 

@@ -1,6 +1,6 @@
 -- One call on a well-formed state: its refusal, the state it leaves, and what it sees of the frame bits held. Assumes nothing.
 use mathlib.Core.Path.{_≡_, refl, sym, ap, _∙_}
-use mathlib.Core.Logic.{_≢_, _⊎_, inl, inr, ⊎-elim}
+use mathlib.Core.Logic.{_⊎_, inl, inr}
 use mathlib.Core.Bool.{Bool, true, false, cond, true≢false}
 use mathlib.Core.List.{List}
 use Prim.Native.Nat.{ℕ, _≤_, _<_}
@@ -22,8 +22,8 @@ use Rattle.receiver.specs.declared.Taken.{Taken}
 use Rattle.receiver.specs.declared.Taken.the-variants.{Unfinished, Finished}
 use Rattle.receiver.specs.TakeBit.{takeBit, heldAfter}
 use Rattle.receiver.specs.IdleClock.{idleClock}
-use Rattle.receiver.specs.Clock.{noOutputs, clockAnswer}
-use Rattle.receiver.specs.Laws.{Accepted, ClockLaws}
+use Rattle.receiver.specs.Clock.{noOutputs}
+use Rattle.receiver.specs.Laws.{ClockLaws}
 use Rattle.registers.specs.Map.{registerByte, written}
 use Rattle.registers.specs.Access.{readRefusal, readAnswer, writeRefusal, writeAnswer}
 use Rattle.registers.proofs.Laws.{write-laws}

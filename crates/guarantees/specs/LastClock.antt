@@ -14,7 +14,6 @@ use Rattle.receiver_state.specs.declared.Ids.{Ids}
 use Rattle.receiver_state.specs.declared.Core.{Core}
 use Rattle.receiver_state.specs.State.{errors, receiver, withErrors, freshCore, freshState}
 use Rattle.fate.specs.declared.Clocked.{Clocked}
-use Rattle.fate.specs.declared.Outputs.{Outputs}
 use Rattle.fate.specs.Fate.{upTo, shows, finished}
 use Rattle.fate.specs.FrameLaws.{Stands, GoodVerdict, OneHigher, registerOf}
 use Rattle.receiver.specs.TakeBit.{Waits}

@@ -1,7 +1,17 @@
 // Document 01, "Registers": register reads and register writes between clocks.
 //
 // The state goes by value, in and out: see `receiver_state`.
+ghost use mathlib.Core.Path.{_≡_};
+ghost use Rattle.registers.specs.Access.{refusedRead, readAnswer, refusedWrite, writeAnswer};
+use change::write_core;
+use map::read_refusal;
+use map::register_byte;
+use map::write_refusal;
 use receiver_state::Receiver;
+use receiver_state::well_formed;
+
+mod change;
+mod map;
 
 #[repr(C)]
 pub struct ReadAnswer {
@@ -13,4 +23,53 @@ pub struct ReadAnswer {
 pub struct WriteAnswer {
     pub refusal: u8,
     pub receiver: Receiver,
+}
+
+// A refused read: the byte is 0.
+fn refuse_read(refusal: u8) -> ReadAnswer
+    ensures { λ r. ⌜ r ≡ refusedRead refusal ⌝ }
+{
+    ReadAnswer { refusal, byte: 0 }
+}
+
+// A refused write: the state as it came.
+fn refuse_write(refusal: u8, receiver: Receiver) -> WriteAnswer
+    ensures { λ r. ⌜ r ≡ refusedWrite refusal receiver ⌝ }
+{
+    WriteAnswer { refusal, receiver }
+}
+
+// The byte that a register holds.
+pub fn read(receiver: Receiver, number: u8) -> ReadAnswer
+    ensures { λ r. ⌜ r ≡ readAnswer receiver number ⌝ }
+{
+    if !well_formed(receiver) {
+        return refuse_read(2);
+    }
+    let refusal = read_refusal(number);
+    if refusal != 0 {
+        return refuse_read(refusal);
+    }
+    let byte = register_byte(receiver.core, number);
+    ReadAnswer { refusal: 0, byte }
+}
+
+// The state after a byte was written to a register.
+pub fn write(receiver: Receiver, number: u8, value: u8) -> WriteAnswer
+    ensures { λ r. ⌜ r ≡ writeAnswer receiver number value ⌝ }
+{
+    if !well_formed(receiver) {
+        return refuse_write(2, receiver);
+    }
+    let refusal = write_refusal(number, value);
+    if refusal != 0 {
+        return refuse_write(refusal, receiver);
+    }
+    let core = write_core(receiver.core, number, value);
+    let mut next = receiver;
+    next.core = core;
+    WriteAnswer {
+        refusal: 0,
+        receiver: next,
+    }
 }

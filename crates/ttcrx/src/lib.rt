@@ -13,6 +13,7 @@ ghost use Rattle.receiver_state.specs.State.{freshAnswer};
 ghost use Rattle.receiver_state.specs.WellFormed.{wellFormed};
 ghost use Rattle.fate.specs.Fate.{columnsOf};
 ghost use Rattle.receiver.specs.Clock.{clockAnswer};
+ghost use Rattle.registers.specs.Access.{readAnswer, writeAnswer};
 use fine_delay::DelayByte;
 use fine_delay::DelaySetting;
 use fine_delay::delay_byte;
@@ -30,6 +31,10 @@ use receiver_state::FreshAnswer;
 use receiver_state::Receiver;
 use receiver_state::fresh;
 use receiver_state::well_formed;
+use registers::ReadAnswer;
+use registers::WriteAnswer;
+use registers::read;
+use registers::write;
 use stored_line::LineAnswer;
 use stored_line::Written;
 use stored_line::line_answer;
@@ -121,4 +126,18 @@ pub extern "C" fn ttcrx_clock(receiver: Receiver, trigger: u8, data: u8) -> Cloc
     ensures { λ r. ⌜ r ≡ clockAnswer columnsOf receiver trigger «data» ⌝ }
 {
     clock(receiver, trigger, data)
+}
+
+#[no_mangle]
+pub extern "C" fn ttcrx_read(receiver: Receiver, number: u8) -> ReadAnswer
+    ensures { λ r. ⌜ r ≡ readAnswer receiver number ⌝ }
+{
+    read(receiver, number)
+}
+
+#[no_mangle]
+pub extern "C" fn ttcrx_write(receiver: Receiver, number: u8, value: u8) -> WriteAnswer
+    ensures { λ r. ⌜ r ≡ writeAnswer receiver number value ⌝ }
+{
+    write(receiver, number, value)
 }

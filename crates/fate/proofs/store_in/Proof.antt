@@ -1,6 +1,5 @@
 -- `fate::store_in` meets its contract: each arm knows its register. Assumes nothing.
-use mathlib.Core.Path.{_≡_}
-use native.Mathlib.Omega.{arith}
+use Rattle.laws.proofs.Rules.{tests}
 use Rattle.fate.specs.Fate.{stored}
 use Rattle.fate.proofs.store_in.Statement.{statement}
 use Rattle.fate.proofs.store_in.Tie as tie
@@ -19,7 +18,11 @@ returns-3 c = rw (c .match .keys3)
 
 returns-4 : tie.Need-returns-4
 unfolding stored
-returns-4 c = let three : c .before .args .sub ≡ 3 = omega arith in rw three
+returns-4 c = rw (c .match .keys4)
+
+returns-5 : tie.Need-returns-5
+unfolding stored
+returns-5 c = search tests
 
 pub store-in-spec : {M : Type 1} → statement M
-store-in-spec = tie.close (tie.spec returns returns-2 returns-3 returns-4)
+store-in-spec = tie.close (tie.spec returns returns-2 returns-3 returns-4 returns-5)
