@@ -102,6 +102,14 @@ static_assert(offsetof(ttcrx_clock_answer, refusal) == 0, "clock.refusal");
 static_assert(offsetof(ttcrx_clock_answer, receiver) == 8, "clock.receiver");
 static_assert(offsetof(ttcrx_clock_answer, outputs) == 56, "clock.outputs");
 
+static_assert(sizeof(ttcrx_read_answer) == 2, "read");
+static_assert(offsetof(ttcrx_read_answer, refusal) == 0, "read.refusal");
+static_assert(offsetof(ttcrx_read_answer, byte) == 1, "read.byte");
+
+static_assert(sizeof(ttcrx_write_answer) == 56, "write");
+static_assert(offsetof(ttcrx_write_answer, refusal) == 0, "write.refusal");
+static_assert(offsetof(ttcrx_write_answer, receiver) == 8, "write.receiver");
+
 static unsigned passed = 0;
 static unsigned failed = 0;
 
@@ -199,15 +207,32 @@ static int fate_is(ttcrx_outputs outputs, uint8_t verdict, uint8_t corrected, ui
     return outputs.verdict == verdict && outputs.corrected == corrected && outputs.word == word;
 }
 
+/* A state of IDs 5 that is fresh but for its status bit 5. */
+static int fresh_but_status(ttcrx_receiver receiver, uint8_t status5)
+{
+    ttcrx_core core = receiver.core;
+    const int status_kept = core.errors.status5 == status5;
+    core.errors.status5 = 1;
+    return status_kept && core_is_fresh(core, 5, 5) && held_is(receiver.held, 0, 0);
+}
+
 /* A refused clock of a state that is fresh but for its status bit 5. */
 static int clock_refused(ttcrx_clock_answer answer, uint8_t refusal, uint8_t status5)
 {
-    ttcrx_core core = answer.receiver.core;
-    const int status_kept = core.errors.status5 == status5;
-    core.errors.status5 = 1;
-    return answer.refusal == refusal && status_kept && core_is_fresh(core, 5, 5) &&
-           held_is(answer.receiver.held, 0, 0) && answer.outputs.trigger == 0 &&
-           bus_is(answer.outputs, 0, 0, 0) && fate_is(answer.outputs, 0, 0, 0);
+    return answer.refusal == refusal && fresh_but_status(answer.receiver, status5) &&
+           answer.outputs.trigger == 0 && bus_is(answer.outputs, 0, 0, 0) &&
+           fate_is(answer.outputs, 0, 0, 0);
+}
+
+static int read_is(ttcrx_read_answer answer, uint8_t refusal, uint8_t byte)
+{
+    return answer.refusal == refusal && answer.byte == byte;
+}
+
+/* A write that leaves a state as it was, fresh but for its status bit 5. */
+static int write_leaves(ttcrx_write_answer answer, uint8_t refusal, uint8_t status5)
+{
+    return answer.refusal == refusal && fresh_but_status(answer.receiver, status5);
 }
 
 /* The bits of a frame, without triggers. The outputs are those of the last bit. */
@@ -415,6 +440,112 @@ static void check_refused_clocks(void)
     check(clock_refused(ttcrx_clock(fresh, 255, 255), 1, 1), "bits of 255 refused");
 }
 
+static void check_reads(void)
+{
+    static const uint8_t bytes[19][2] = {
+        {0, 0x11},  {1, 0xF2},  {2, 0x33},  {3, 0x94},  {8, 0x65},  {9, 0x76},  {10, 0x87},
+        {11, 0x00}, {16, 0x9A}, {17, 0x2B}, {18, 0x3C}, {20, 0x05}, {21, 0x27}, {22, 0xC0},
+        {24, 0xDE}, {25, 0x0F}, {26, 0x21}, {27, 0x43}, {28, 0xE5}};
+    ttcrx_receiver receiver = ttcrx_fresh(0x2B9A, 0x3C).receiver;
+    size_t i;
+    receiver.core.settings.fine1 = 0x11;
+    receiver.core.settings.fine2 = 0xF2;
+    receiver.core.settings.coarse = 0x33;
+    receiver.core.settings.control = 0x94;
+    receiver.core.settings.config2 = 0x05;
+    receiver.core.settings.config3 = 0x27;
+    receiver.core.errors.single_errors = 0x7665;
+    receiver.core.errors.double_errors = 0x87;
+    receiver.core.errors.status5 = 0;
+    receiver.core.counters.bunch = 0x0FDE;
+    receiver.core.counters.event = 0xE54321;
+    for (i = 0; i < 19; i++) {
+        check(read_is(ttcrx_read(receiver, bytes[i][0]), 0, bytes[i][1]), "byte of a register");
+    }
+}
+
+static void check_stored_bytes(void)
+{
+    ttcrx_receiver receiver = ttcrx_fresh(5, 5).receiver;
+    receiver = ttcrx_write(receiver, 0, 0x0E).receiver;
+    receiver = ttcrx_write(receiver, 1, 0xFF).receiver;
+    receiver = ttcrx_write(receiver, 2, 0x35).receiver;
+    receiver = ttcrx_write(receiver, 3, 0x90).receiver;
+    receiver = ttcrx_write(receiver, 20, 0x05).receiver;
+    receiver = ttcrx_write(receiver, 21, 0x27).receiver;
+    check(receiver.core.settings.fine1 == 0x0E, "fine delay 1 stored");
+    check(receiver.core.settings.fine2 == 0xFF, "fine delay 2 stored");
+    check(receiver.core.settings.coarse == 0x35, "coarse delay stored");
+    check(receiver.core.settings.control == 0x90, "control stored");
+    check(receiver.core.settings.config2 == 0x05, "bit 7 of Config 2 cleared");
+    check(receiver.core.settings.config3 == 0x27, "bit 7 of Config 3 cleared");
+    check(read_is(ttcrx_read(receiver, 2), 0, 0x35), "coarse delay read back");
+    receiver = ttcrx_write(receiver, 20, 0x85).receiver;
+    check(receiver.core.settings.config2 == 0x85, "bit 7 of Config 2 set");
+}
+
+static void check_cleared_counters(void)
+{
+    static const uint8_t clearing[8] = {8, 9, 10, 24, 25, 26, 27, 28};
+    const ttcrx_receiver fresh = ttcrx_fresh(5, 5).receiver;
+    size_t i;
+    for (i = 0; i < 8; i++) {
+        const uint8_t number = clearing[i];
+        ttcrx_receiver receiver = fresh;
+        ttcrx_write_answer answer;
+        receiver.core.errors.single_errors = number < 10 ? 0xFFFF : 0;
+        receiver.core.errors.double_errors = number == 10 ? 0xFF : 0;
+        receiver.core.counters.bunch = number == 24 || number == 25 ? 0x0FFF : 0;
+        receiver.core.counters.event = number > 25 ? 0xFFFFFF : 0;
+        check(read_is(ttcrx_read(receiver, number), 0, number == 25 ? 0x0F : 0xFF),
+              "counter before it is cleared");
+        answer = ttcrx_write(receiver, number, 0xA5);
+        check(answer.refusal == 0 && fresh_but_status(answer.receiver, 1), "counter cleared");
+    }
+    check(write_leaves(ttcrx_write(fresh, 11, 0xA5), 0, 1), "upset counter stays 0");
+}
+
+/* A write between the bits of 100150235AD leaves the bits that are held. */
+static void check_write_within_a_frame(void)
+{
+    const uint64_t frame = UINT64_C(0x100150235AD);
+    ttcrx_clock_answer part = send_frame(ttcrx_fresh(5, 5).receiver, 20, frame >> 22);
+    ttcrx_write_answer cleared = ttcrx_write(part.receiver, 24, 0);
+    ttcrx_clock_answer whole = send_frame(cleared.receiver, 22, frame);
+    check(cleared.refusal == 0 && counters_are(cleared.receiver.core, 0, 0),
+          "bunch counter cleared within a frame");
+    check(held_is(cleared.receiver.held, 20, frame >> 22), "held bits stay");
+    check(fate_is(whole.outputs, 2, 0, 0x00150235), "100150235AD received all the same");
+    check(counters_are(whole.receiver.core, 22, 0), "22 clocks since");
+}
+
+static void check_refused_accesses(void)
+{
+    static const uint8_t read_only[4] = {16, 17, 18, 22};
+    const ttcrx_receiver fresh = ttcrx_fresh(5, 5).receiver;
+    ttcrx_receiver ill_formed = fresh;
+    size_t i;
+    ill_formed.core.errors.status5 = 2;
+    check(read_is(ttcrx_read(ill_formed, 3), 2, 0), "read from an ill-formed state refused");
+    check(read_is(ttcrx_read(ill_formed, 4), 2, 0), "2 comes before 5 in a read");
+    check(read_is(ttcrx_read(fresh, 4), 5, 0), "read of 4 refused");
+    check(read_is(ttcrx_read(fresh, 255), 5, 0), "read of 255 refused");
+    check(write_leaves(ttcrx_write(ill_formed, 2, 0), 2, 2), "ill-formed state refused");
+    check(write_leaves(ttcrx_write(ill_formed, 4, 0), 2, 2), "2 comes before 5");
+    check(write_leaves(ttcrx_write(ill_formed, 16, 0), 2, 2), "2 comes before 6");
+    check(write_leaves(ttcrx_write(ill_formed, 20, 0), 2, 2), "2 comes before 7");
+    check(write_leaves(ttcrx_write(fresh, 4, 0), 5, 1), "write to 4 refused");
+    check(write_leaves(ttcrx_write(fresh, 255, 0), 5, 1), "write to 255 refused");
+    for (i = 0; i < 4; i++) {
+        const uint8_t same = ttcrx_read(fresh, read_only[i]).byte;
+        check(write_leaves(ttcrx_write(fresh, read_only[i], same), 6, 1), "write refused");
+    }
+    check(write_leaves(ttcrx_write(fresh, 20, 0x84), 7, 1), "84 to Config 2 refused");
+    check(write_leaves(ttcrx_write(fresh, 20, 0xA7), 7, 1), "A7 to Config 2 refused");
+    check(write_leaves(ttcrx_write(fresh, 21, 0xE7), 7, 1), "E7 to Config 3 refused");
+    check(write_leaves(ttcrx_write(fresh, 21, 0x85), 7, 1), "85 to Config 3 refused");
+}
+
 int main(void)
 {
     check_encoders();
@@ -428,6 +559,11 @@ int main(void)
     check_triggers();
     check_received_frames();
     check_refused_clocks();
+    check_reads();
+    check_stored_bytes();
+    check_cleared_counters();
+    check_write_within_a_frame();
+    check_refused_accesses();
     if (failed != 0) {
         return 1;
     }

@@ -2,7 +2,7 @@
 //! Of a refused call every field but the number of refusal is 0; a state that was given comes back.
 
 use crate::ffi::{self, Byte, Decoded, Encoded, Fields, Line, Setting, Written};
-use crate::ffi::{ClockAnswer, FreshAnswer};
+use crate::ffi::{ClockAnswer, FreshAnswer, ReadAnswer, WriteAnswer};
 use crate::model::{self, Kind, Refusal};
 use crate::receiver::{self, Bus, Receiver};
 
@@ -105,6 +105,11 @@ pub fn fresh(id: u16, i2c: u8) -> FreshAnswer {
     })
 }
 
+/// "Numbers of refusal", 2: the model's receiver of a state.
+fn well_formed_receiver(state: &ffi::Receiver) -> Result<Receiver, receiver::Refusal> {
+    Receiver::from_state(state).ok_or(receiver::Refusal::State)
+}
+
 /// The answer of `ttcrx_clock`.
 pub fn clock(state: ffi::Receiver, trigger: u8, data: u8) -> ClockAnswer {
     let refused = |refusal| ClockAnswer {
@@ -124,7 +129,7 @@ fn clocked(
     trigger: u8,
     data: u8,
 ) -> Result<(Receiver, receiver::Outputs), receiver::Refusal> {
-    let mut receiver = Receiver::from_state(state).ok_or(receiver::Refusal::State)?;
+    let mut receiver = well_formed_receiver(state)?;
     if trigger > 1 || data > 1 {
         return Err(receiver::Refusal::Bit);
     }
@@ -164,4 +169,38 @@ fn bus(bus: Bus) -> (u8, u16) {
         Bus::EventLow(number) => (2, number),
         Bus::EventHigh(number) => (3, number),
     }
+}
+
+/// The answer of `ttcrx_read`.
+pub fn read(state: &ffi::Receiver, number: u8) -> ReadAnswer {
+    let refused = |refusal| ReadAnswer {
+        refusal: refusal as u8,
+        ..ReadAnswer::default()
+    };
+    let answer = well_formed_receiver(state).and_then(|receiver| receiver.read(number));
+    answer.map_or_else(refused, |byte| ReadAnswer { refusal: 0, byte })
+}
+
+/// The answer of `ttcrx_write`.
+pub fn write(state: ffi::Receiver, number: u8, value: u8) -> WriteAnswer {
+    let refused = |refusal| WriteAnswer {
+        refusal: refusal as u8,
+        receiver: state,
+    };
+    let answer = receiver_written(&state, number, value);
+    answer.map_or_else(refused, |receiver| WriteAnswer {
+        refusal: 0,
+        receiver: receiver.state(),
+    })
+}
+
+/// "Numbers of refusal", 2 and then those of the write; else the receiver after it.
+fn receiver_written(
+    state: &ffi::Receiver,
+    number: u8,
+    value: u8,
+) -> Result<Receiver, receiver::Refusal> {
+    let mut receiver = well_formed_receiver(state)?;
+    receiver.write(number, value)?;
+    Ok(receiver)
 }

@@ -16,12 +16,12 @@ impl Cases {
     /// Two answers to one input must be equal.
     #[track_caller]
     #[inline]
-    pub fn same<I: Debug, A: PartialEq + Debug>(&mut self, input: I, library: A, expected: A) {
+    pub fn same<I: Debug, A: PartialEq + Debug>(&mut self, input: I, answer: A, expected: A) {
         self.count += 1;
         let (name, case) = (self.name, self.count);
         assert!(
-            library == expected,
-            "{name}, case {case}\n input (hex): {input:X?}\n     library: {library:?}\n    \
+            answer == expected,
+            "{name}, case {case}\n input (hex): {input:X?}\n    answered: {answer:?}\n    \
              expected: {expected:?}"
         );
     }

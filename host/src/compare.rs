@@ -1,7 +1,7 @@
-//! One call of the library beside the model's answer, for the receiver's three functions.
+//! One call of the library beside the model's answer, for the receiver's functions.
 
 use crate::cases::Cases;
-use crate::ffi::{ClockAnswer, FreshAnswer, Receiver};
+use crate::ffi::{ClockAnswer, FreshAnswer, ReadAnswer, Receiver, WriteAnswer};
 use crate::{answer, ttcrx};
 
 #[track_caller]
@@ -24,5 +24,20 @@ pub fn clock(cases: &mut Cases, state: Receiver, trigger: u8, data: u8) -> Clock
     let library = ttcrx::clock(state, trigger, data);
     let expected = answer::clock(state, trigger, data);
     cases.same((state, trigger, data), library, expected);
+    library
+}
+
+#[track_caller]
+pub fn read(cases: &mut Cases, state: Receiver, number: u8) -> ReadAnswer {
+    let library = ttcrx::read(state, number);
+    cases.same((state, number), library, answer::read(&state, number));
+    library
+}
+
+#[track_caller]
+pub fn write(cases: &mut Cases, state: Receiver, number: u8, value: u8) -> WriteAnswer {
+    let library = ttcrx::write(state, number, value);
+    let expected = answer::write(state, number, value);
+    cases.same((state, number, value), library, expected);
     library
 }

@@ -1,8 +1,10 @@
 //! Counts what the clocks of a test have shown, so that the test can name what it did not see.
 
+mod accesses;
 mod tally;
 
 use crate::ffi::{ClockAnswer, Receiver};
+pub use accesses::{kind, Accesses, KINDS};
 pub use tally::{assert_seen, Seen, Tally};
 
 /// What was seen of "Numbers of refusal", "Fate of a finished frame" and "One clock".
@@ -30,7 +32,7 @@ pub struct Coverage {
 impl Default for Coverage {
     fn default() -> Coverage {
         Coverage {
-            refusals: Tally::of([("refusal", 0, 4)]),
+            refusals: Tally::of([("refusal", 0, 7)]),
             verdicts: Tally::of([("verdict", 0, 9), ("trigger", 0, 1), ("words left", 0, 2)]),
             corrected: Tally::of([("verdict", 1, 6), ("corrected flag", 0, 1)]),
             kinds: Tally::of([("long", 0, 1), ("error verdict", 7, 8)]),

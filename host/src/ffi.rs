@@ -166,6 +166,22 @@ pub struct ClockAnswer {
     pub outputs: Outputs,
 }
 
+/// `ttcrx_read_answer`
+#[repr(C)]
+#[derive(Clone, Copy, Debug, Default, PartialEq, Eq)]
+pub struct ReadAnswer {
+    pub refusal: u8,
+    pub byte: u8,
+}
+
+/// `ttcrx_write_answer`
+#[repr(C)]
+#[derive(Clone, Copy, Debug, Default, PartialEq, Eq)]
+pub struct WriteAnswer {
+    pub refusal: u8,
+    pub receiver: Receiver,
+}
+
 extern "C" {
     pub fn ttcrx_encode_short(data: u8) -> Encoded;
     pub fn ttcrx_encode_long(address: u16, e: u8, sub_address: u8, data: u8) -> Encoded;
@@ -179,6 +195,8 @@ extern "C" {
     pub fn ttcrx_well_formed(receiver: Receiver) -> u8;
     pub fn ttcrx_fresh(id: u16, i2c: u8) -> FreshAnswer;
     pub fn ttcrx_clock(receiver: Receiver, trigger: u8, data: u8) -> ClockAnswer;
+    pub fn ttcrx_read(receiver: Receiver, number: u8) -> ReadAnswer;
+    pub fn ttcrx_write(receiver: Receiver, number: u8, value: u8) -> WriteAnswer;
 }
 
 const _: () = assert!(size_of::<Encoded>() == 16 && align_of::<Encoded>() == 8);
@@ -272,3 +290,11 @@ const _: () = assert!(size_of::<ClockAnswer>() == 72 && align_of::<ClockAnswer>(
 const _: () = assert!(offset_of!(ClockAnswer, refusal) == 0);
 const _: () = assert!(offset_of!(ClockAnswer, receiver) == 8);
 const _: () = assert!(offset_of!(ClockAnswer, outputs) == 56);
+
+const _: () = assert!(size_of::<ReadAnswer>() == 2 && align_of::<ReadAnswer>() == 1);
+const _: () = assert!(offset_of!(ReadAnswer, refusal) == 0);
+const _: () = assert!(offset_of!(ReadAnswer, byte) == 1);
+
+const _: () = assert!(size_of::<WriteAnswer>() == 56 && align_of::<WriteAnswer>() == 8);
+const _: () = assert!(offset_of!(WriteAnswer, refusal) == 0);
+const _: () = assert!(offset_of!(WriteAnswer, receiver) == 8);

@@ -1,9 +1,11 @@
 //! Compares the archive libttcrx.a with an independent model of document 01.
 
 pub mod answer;
+pub mod calls;
 pub mod cases;
 pub mod compare;
 pub mod coverage;
+pub mod device;
 pub mod ffi;
 pub mod model;
 pub mod random;

@@ -1,20 +1,25 @@
-//! A second model of the receiver of document 01, one bunch clock at a time.
+//! A second model of the receiver of document 01, one bunch clock at a time, with register accesses
+//! between clocks.
 //!
 //! The bits of an unfinished frame are kept one by one in the order received, a running sequence as
 //! the two words of its event number, and of a Config byte only the bit that may change. A finished
 //! frame is decoded by `crate::model`.
 
+mod registers;
 mod state;
 
 use crate::model::{self, Decoded, Fields, Kind};
 
-/// "Numbers of refusal", 1 to 4.
+/// "Numbers of refusal", 1 to 7.
 #[derive(Clone, Copy, Debug, PartialEq, Eq)]
 pub enum Refusal {
     Bit = 1,
     State = 2,
     Id = 3,
     I2c = 4,
+    NotInMap = 5,
+    NotWritable = 6,
+    ConfigBits = 7,
 }
 
 /// "Fate of a finished frame": the verdicts, with 0 for a clock on which no frame finished.

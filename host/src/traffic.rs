@@ -2,7 +2,7 @@
 //! channel B, and triggers on channel A.
 
 use crate::coverage::{assert_seen, Tally};
-use crate::model;
+use crate::model::{self, Fields};
 use crate::random::Random;
 
 /// The bits of a frame that are still to be sent, as a number of that many bits.
@@ -81,21 +81,31 @@ fn sub_address(random: &mut Random, habit: Habit) -> u8 {
     random.pick(&[0, 1, 2, 3, 3, 3, 4, 5, 7, 0x46, 0x83, any])
 }
 
+/// The fields of a long frame, of any fate at the receiver of this ID.
+pub fn fields(random: &mut Random, id: u16, habit: Habit) -> Fields {
+    Fields {
+        address: address(random, id),
+        e: random.once_in(5).into(),
+        sub_address: sub_address(random, habit),
+        data: random.byte(),
+    }
+}
+
 /// A long frame. The fixed bit is 0 once in 8 times.
 fn long(random: &mut Random, id: u16, habit: Habit) -> Frame {
-    let address = u32::from(address(random, id));
-    let e = u32::from(random.once_in(5));
-    let fixed = u32::from(!random.once_in(8));
-    let sub_address = u32::from(sub_address(random, habit));
-    let word = address << 18 | e << 17 | fixed << 16 | sub_address << 8;
+    let right = model::encode_long(fields(random, id, habit)).expect("in range");
+    let without_fixed_bit = (right >> 8) as u32 & !(1 << 16);
     Frame {
-        number: model::encode_word(word | u32::from(random.byte())),
+        number: match random.once_in(8) {
+            true => model::encode_word(without_fixed_bit),
+            false => right,
+        },
         length: 42,
     }
 }
 
 /// So many protected bits of the frame, which stand between format and stop.
-fn protected(random: &mut Random, frame: Frame, count: u32) -> u64 {
+pub fn protected(random: &mut Random, frame: Frame, count: u32) -> u64 {
     let mut bits = 0u64;
     while bits.count_ones() < count {
         bits |= 2 << random.below(u64::from(frame.length) - 3);

@@ -1,7 +1,7 @@
 //! The functions of the archive as safe ones: a slice stands for pointer and length.
 
 use crate::ffi::{self, Byte, Decoded, Encoded, Line, Setting, Written};
-use crate::ffi::{ClockAnswer, FreshAnswer, Receiver};
+use crate::ffi::{ClockAnswer, FreshAnswer, ReadAnswer, Receiver, WriteAnswer};
 
 pub fn encode_short(data: u8) -> Encoded {
     // SAFETY: takes every value and no pointer.
@@ -61,6 +61,16 @@ pub fn fresh(id: u16, i2c: u8) -> FreshAnswer {
 pub fn clock(receiver: Receiver, trigger: u8, data: u8) -> ClockAnswer {
     // SAFETY: takes every value and no pointer.
     unsafe { ffi::ttcrx_clock(receiver, trigger, data) }
+}
+
+pub fn read(receiver: Receiver, number: u8) -> ReadAnswer {
+    // SAFETY: takes every value and no pointer.
+    unsafe { ffi::ttcrx_read(receiver, number) }
+}
+
+pub fn write(receiver: Receiver, number: u8, value: u8) -> WriteAnswer {
+    // SAFETY: takes every value and no pointer.
+    unsafe { ffi::ttcrx_write(receiver, number, value) }
 }
 
 /// An empty line may be lent as a null pointer.

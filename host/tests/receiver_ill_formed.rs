@@ -1,5 +1,7 @@
-//! Refusals of the library's clock against the model: states that are not well formed, bits over 1.
+//! Refusals of the library against the model: bits over 1, and states that are not well formed,
+//! which clock, read and write refuse alike.
 
+use ttcrx_host::calls::Call;
 use ttcrx_host::cases::Cases;
 use ttcrx_host::ffi::{ClockAnswer, Held, Receiver, Sequence};
 use ttcrx_host::random::Random;
@@ -30,6 +32,19 @@ fn expect(cases: &mut Cases, name: &str, state: Receiver, good: bool) {
             };
             cases.same((name, state, trigger, data), library, expected);
         }
+    }
+    expect_accesses(cases, name, state, good);
+}
+
+/// Reads and writes with a good state are refused by their arguments; else by 2, which comes first.
+fn expect_accesses(cases: &mut Cases, name: &str, state: Receiver, good: bool) {
+    for (number, value) in [(2, 0), (8, 1), (4, 2), (17, 3), (21, 0x26), (255, 255)] {
+        let read = compare::read(cases, state, number).refusal;
+        let write = compare::write(cases, state, number, value).refusal;
+        let by_arguments =
+            [Call::Read { number }, Call::Write { number, value }].map(Call::refusal);
+        let expected = if good { by_arguments } else { [2, 2] };
+        cases.same((name, state, number, value), [read, write], expected);
     }
 }
 
@@ -114,7 +129,7 @@ fn edges_of_ids_and_numbers() {
             expect(&mut cases, name, state, good);
         }
     }
-    cases.at_least(25 * 200 * 30);
+    cases.at_least(25 * 200 * 48);
 }
 
 #[test]
@@ -131,7 +146,7 @@ fn every_config_byte() {
             expect(&mut cases, "Config 3", state, byte == 0xA7 || byte == 0x27);
         }
     }
-    cases.at_least(256 * 10 * 2 * 25);
+    cases.at_least(256 * 10 * 2 * 48);
 }
 
 #[test]
@@ -152,7 +167,7 @@ fn every_number_of_words_left() {
             }
         }
     }
-    cases.at_least(256 * 8 * 5 * 25);
+    cases.at_least(256 * 8 * 5 * 48);
 }
 
 /// The front of a frame; of a whole one, all of it.
@@ -190,7 +205,7 @@ fn held_bits_of_frames() {
         fronts(&mut cases, state, frame);
     }
     assert!(lengths.iter().all(|&count| count > 9), "{lengths:?}");
-    cases.at_least(1_000_000);
+    cases.at_least(4_500_000);
 }
 
 /// With format 0 there are at most 15 bits, with format 1 at most 41; a waiting one holds none.
@@ -214,7 +229,7 @@ fn every_number_of_held_bits() {
             }
         }
     }
-    cases.at_least(256 * (1 + 64 * 3) * 25);
+    cases.at_least(256 * (1 + 64 * 3) * 48);
 }
 
 #[test]

@@ -1,11 +1,13 @@
-//! Long runs of clocks of the library against the model: the library's state is fed back from its
-//! own last answer, the model keeps its own.
+//! Long runs of clocks, reads and writes of the library against the model: the library's state is
+//! fed back from its own last answer, the model keeps its own.
 
+use ttcrx_host::calls::{access, no_clock, refused_clock, Call};
 use ttcrx_host::cases::Cases;
-use ttcrx_host::coverage::Coverage;
-use ttcrx_host::ffi::{self, ClockAnswer};
+use ttcrx_host::coverage::{Accesses, Coverage};
+use ttcrx_host::device::{self, Library, Shown};
+use ttcrx_host::ffi;
 use ttcrx_host::random::Random;
-use ttcrx_host::receiver::Receiver;
+use ttcrx_host::receiver::{Receiver, Refusal};
 use ttcrx_host::traffic::{Habit, Traffic, LIVELY};
 use ttcrx_host::{answer, compare, states, ttcrx};
 
@@ -21,54 +23,91 @@ const QUIET: Habit = Habit {
 struct Runs {
     cases: Cases,
     coverage: Coverage,
+    accesses: Accesses,
     traffic: Traffic,
     random: Random,
 }
 
+/// What the model answers to a call that is no clock.
+fn expected(receiver: &mut Receiver, call: Call) -> Shown {
+    let answer = match call {
+        Call::Clock { .. } => Err(Refusal::Bit),
+        Call::Read { number } => receiver.read(number),
+        Call::Write { number, value } => receiver.write(number, value).map(|()| 0),
+    };
+    Shown {
+        refusal: answer.map_or_else(|refusal| refusal as u8, |_| 0),
+        byte: answer.unwrap_or(0),
+        ..Shown::default()
+    }
+}
+
 impl Runs {
-    /// So many clocks from this state.
-    fn run(&mut self, start: ffi::Receiver, habit: Habit, clocks: u32) {
+    /// So many clocks from this state. Another call comes once in so many clocks; never with 0.
+    fn run(&mut self, start: ffi::Receiver, habit: Habit, others: u64, clocks: u32) {
         let mut state = start;
         let mut receiver = Receiver::from_state(&start).expect("well formed");
         self.traffic.start(start.core.ids.id, habit);
         self.coverage.run();
         for _ in 0..clocks {
-            let (trigger, data) = self.traffic.clock();
-            let library = ttcrx::clock(state, trigger, data);
-            let outputs = receiver.clock(trigger == 1, data == 1);
-            let expected = answer::clock_done(&receiver, outputs);
-            self.cases.same((state, trigger, data), library, expected);
-            self.coverage.clock(&state, data, &library);
-            state = library.receiver;
+            state = self.clock(state, &mut receiver);
+            while others != 0 && self.random.once_in(others) {
+                state = self.no_clock(state, &mut receiver);
+            }
             if self.random.once_in(1_000) {
-                state = self.refused_between(state);
+                self.ill_formed(state);
             }
         }
     }
 
-    /// Refused clocks between those of a run: one of an ill-formed state, one with a bit over 1, which
-    /// hands the state back.
-    fn refused_between(&mut self, state: ffi::Receiver) -> ffi::Receiver {
-        let over = 2 + self.random.byte() % 254;
-        let bits = self.random.pick(&[(over, 0), (1, over), (over, over)]);
-        let mut ill_formed = state;
-        ill_formed.core.ids.i2c |= 64;
-        self.refused(ill_formed, bits, 2);
-        self.refused(state, bits, 1)
+    fn clock(&mut self, state: ffi::Receiver, receiver: &mut Receiver) -> ffi::Receiver {
+        let (trigger, data) = self.traffic.clock();
+        let library = ttcrx::clock(state, trigger, data);
+        let outputs = receiver.clock(trigger == 1, data == 1);
+        let expected = answer::clock_done(receiver, outputs);
+        self.cases.same((state, trigger, data), library, expected);
+        self.coverage.clock(&state, data, &library);
+        let call = Call::Clock { trigger, data };
+        self.accesses.call(&state, call, &library.receiver);
+        library.receiver
     }
 
-    /// A clock that must be refused by this number, with the state as it came.
-    fn refused(&mut self, state: ffi::Receiver, bits: (u8, u8), refusal: u8) -> ffi::Receiver {
-        let (trigger, data) = bits;
-        let library = ttcrx::clock(state, trigger, data);
-        let expected = ClockAnswer {
-            refusal,
-            receiver: state,
-            ..ClockAnswer::default()
-        };
-        self.cases.same((state, trigger, data), library, expected);
+    /// An access or a refused clock between the clocks.
+    fn no_clock(&mut self, state: ffi::Receiver, receiver: &mut Receiver) -> ffi::Receiver {
+        let call = no_clock(&mut self.random);
+        let mut after = state;
+        let library = device::call(&mut Library, &mut after, call);
+        let expected = expected(receiver, call);
+        let input = (state, call);
+        self.cases
+            .same(input, (library, after), (expected, receiver.state()));
         self.coverage.refusal(library.refusal);
-        library.receiver
+        self.accesses.call(&state, call, &after);
+        after
+    }
+
+    /// Calls with an ill-formed state, right ones among them: refused, and the state as it came.
+    fn ill_formed(&mut self, mut state: ffi::Receiver) {
+        state.core.ids.i2c |= 64;
+        let right = Call::Clock {
+            trigger: 1,
+            data: 0,
+        };
+        for call in [
+            right,
+            refused_clock(&mut self.random),
+            access(&mut self.random),
+        ] {
+            let mut after = state;
+            let library = device::call(&mut Library, &mut after, call);
+            let expected = Shown {
+                refusal: 2,
+                ..Shown::default()
+            };
+            let input = (state, call);
+            self.cases.same(input, (library, after), (expected, state));
+            self.coverage.refusal(library.refusal);
+        }
     }
 
     /// A fresh state of the library, after two that it refuses.
@@ -86,20 +125,23 @@ impl Runs {
 #[test]
 fn long_runs() {
     let mut runs = Runs {
-        cases: Cases::of("clocks in long runs"),
+        cases: Cases::of("clocks, reads and writes in long runs"),
         coverage: Coverage::default(),
+        accesses: Accesses::default(),
         traffic: Traffic::new(60),
         random: Random::new(61),
     };
-    for habit in [LIVELY, RARE, QUIET, QUIET] {
+    for (habit, others) in [(LIVELY, 2), (RARE, 20), (QUIET, 1_000), (QUIET, 0)] {
         let fresh = runs.fresh();
-        runs.run(fresh, habit, 2_500_000);
+        runs.run(fresh, habit, others, 2_500_000);
     }
     for run in 0..1_000 {
         let state = states::well_formed(&mut runs.random);
-        runs.run(state, [LIVELY, RARE, QUIET][run % 3], 10_000);
+        let others = [0, 1_000, 50, 3][run % 4];
+        runs.run(state, [LIVELY, RARE, QUIET][run % 3], others, 10_000);
     }
     runs.traffic.assert_complete();
     runs.coverage.assert_complete();
-    runs.cases.at_least(20_000_000);
+    runs.accesses.assert_complete();
+    runs.cases.at_least(23_500_000);
 }

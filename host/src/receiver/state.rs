@@ -6,7 +6,7 @@ use super::{Bits, Event, Left, Receiver, BUNCHES, CONTROL, EVENTS, FRESH_CONFIG,
 use crate::ffi;
 
 /// "Config bytes as 7 asks": no difference from the fresh byte in bits 6..0. Gives bit 7.
-fn config_bit_7(byte: u8, fresh: u8) -> Option<bool> {
+pub(super) fn config_bit_7(byte: u8, fresh: u8) -> Option<bool> {
     ((byte ^ fresh) & 0x7F == 0).then_some(byte >> 7 == 1)
 }
 
@@ -118,18 +118,20 @@ impl Receiver {
         }
     }
 
+    /// Config 2 or Config 3: bit 7, and the other bits of the fresh byte.
+    pub(super) fn config(&self, place: usize) -> u8 {
+        let bit_7 = u8::from(self.config_bit_7[place]) << 7;
+        bit_7 | (FRESH_CONFIG[place] & 0x7F)
+    }
+
     fn settings(&self) -> ffi::Settings {
-        let config = |place: usize| {
-            let bit_7 = u8::from(self.config_bit_7[place]) << 7;
-            bit_7 | (FRESH_CONFIG[place] & 0x7F)
-        };
         ffi::Settings {
             fine1: self.registers[0],
             fine2: self.registers[1],
             coarse: self.registers[2],
             control: self.registers[CONTROL],
-            config2: config(0),
-            config3: config(1),
+            config2: self.config(0),
+            config3: self.config(1),
         }
     }
 

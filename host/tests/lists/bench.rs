@@ -1,0 +1,83 @@
+//! Makes lists of calls.
+
+use ttcrx_host::calls::Call;
+use ttcrx_host::cases::Cases;
+use ttcrx_host::coverage::Accesses;
+use ttcrx_host::device::{call, Device, Shown};
+use ttcrx_host::ffi::{Outputs, Receiver};
+
+/// A device and what was compared and seen of it.
+pub struct Bench<'a, D> {
+    pub device: &'a mut D,
+    pub cases: Cases,
+    pub accesses: Accesses,
+}
+
+/// What a list has answered.
+pub struct Run {
+    pub start: Receiver,
+    shown: Vec<Shown>,
+    /// The state before the last call.
+    pub eve: Receiver,
+    pub end: Receiver,
+}
+
+impl Run {
+    /// Outputs, bytes read and refusals before the last call.
+    pub fn before(&self) -> &[Shown] {
+        &self.shown[..self.shown.len() - 1]
+    }
+
+    /// The outputs of the last call.
+    pub fn last(&self) -> Outputs {
+        self.shown.last().expect("a call").outputs
+    }
+
+    pub fn verdicts(&self) -> impl Iterator<Item = u8> + '_ {
+        self.shown.iter().map(|shown| shown.outputs.verdict)
+    }
+}
+
+impl<'a, D: Device> Bench<'a, D> {
+    pub fn new(device: &'a mut D, name: &'static str) -> Bench<'a, D> {
+        Bench {
+            device,
+            cases: Cases::of(name),
+            accesses: Accesses::default(),
+        }
+    }
+
+    /// "The first gets the starting state, each later one the state as the call before returned or
+    /// left it."
+    pub fn run(&mut self, start: Receiver, calls: &[Call]) -> Run {
+        let mut run = Run {
+            start,
+            shown: Vec::with_capacity(calls.len()),
+            eve: start,
+            end: start,
+        };
+        for &each in calls {
+            run.eve = run.end;
+            let shown = call(self.device, &mut run.end, each);
+            self.refuses(each, shown, &run);
+            self.accesses.call(&run.eve, each, &run.end);
+            run.shown.push(shown);
+        }
+        run
+    }
+
+    /// "Each call ... refuses, exactly as ... the table of refusals say": a refused call shows
+    /// nothing else and leaves the state.
+    fn refuses(&mut self, call: Call, shown: Shown, run: &Run) {
+        let refusal = call.refusal();
+        let input = (call, run.eve);
+        self.cases.same(input, shown.refusal, refusal);
+        if refusal != 0 {
+            let nothing = Shown {
+                refusal,
+                ..Shown::default()
+            };
+            self.cases.same(input, (shown, run.end), (nothing, run.eve));
+        }
+    }
+}

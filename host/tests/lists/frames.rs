@@ -1,0 +1,162 @@
+//! Lists that start from a waiting state, carry on their clocks exactly the bits of a properly
+//! encoded frame and end on the last of them.
+
+use crate::bench::{Bench, Run};
+use crate::sent::Sent;
+use crate::tallies::Tallies;
+use ttcrx_host::calls::{carrying, Call, Mix};
+use ttcrx_host::device::Device;
+use ttcrx_host::ffi::{Held, Outputs, Receiver};
+use ttcrx_host::random::Random;
+use ttcrx_host::states;
+use ttcrx_host::traffic::{protected, Frame};
+
+/// A list, here with channel B at 1 on every clock, and the frame that it is to carry.
+#[derive(Debug)]
+struct List {
+    start: Receiver,
+    idle: Vec<Call>,
+    sent: Sent,
+}
+
+impl List {
+    fn any(random: &mut Random) -> List {
+        let mut start = states::well_formed(random);
+        start.held = Held::default();
+        let sent = Sent::any(random, start.core.ids.id);
+        let mix = Mix::any(random);
+        let mut idle = Vec::new();
+        for _ in 0..sent.frame().length {
+            mix.clock(random, 1, &mut idle);
+        }
+        List { start, idle, sent }
+    }
+}
+
+struct Frames<'a, D> {
+    bench: Bench<'a, D>,
+    tallies: Tallies,
+}
+
+/// What the last clock shows, and the state after it.
+type End = (Outputs, Receiver);
+
+/// Verdict and effect of the table's row, the word, flag 0; the rest is the idle list's.
+fn clean(list: &List, (outputs, state): End) -> End {
+    let outputs = Outputs {
+        verdict: list.sent.row(list.start.core.ids.id),
+        corrected: 0,
+        word: list.sent.word(),
+        ..outputs
+    };
+    (outputs, list.sent.effect(state))
+}
+
+/// As clean, "apart from the corrected flag and the single error counter (one higher unless full,
+/// or cleared by RESET)".
+fn one_flip((mut outputs, mut state): End) -> End {
+    outputs.corrected = 1;
+    let single = &mut state.core.errors.single_errors;
+    *single = match (outputs.verdict, *single) {
+        (3, _) => 0,
+        (_, 65535) => 65535,
+        (_, number) => number + 1,
+    };
+    (outputs, state)
+}
+
+/// Verdict 8 and else the outputs of the idle list; its state, "but with the double error counter
+/// one higher unless full and status bit 5 at 1".
+fn two_flips((mut outputs, mut state): End) -> End {
+    outputs.verdict = 8;
+    let errors = &mut state.core.errors;
+    errors.double_errors = match errors.double_errors {
+        255 => 255,
+        number => number + 1,
+    };
+    errors.status5 = 1;
+    (outputs, state)
+}
+
+impl<'a, D: Device> Frames<'a, D> {
+    fn new(device: &'a mut D, name: &'static str) -> Frames<'a, D> {
+        Frames {
+            bench: Bench::new(device, name),
+            tallies: Tallies::new(),
+        }
+    }
+
+    /// The list idle, clean, and with each of these flips.
+    fn list(&mut self, list: &List, flips: &[u64]) {
+        let idle = self.bench.run(list.start, &list.idle);
+        let waits = (idle.last().verdict, idle.end.held);
+        self.bench.cases.same(list, waits, (0, Held::default()));
+        let idle_end = (idle.last(), idle.end);
+        let clean = clean(list, idle_end);
+        self.carries(list, 0, &idle, clean);
+        for &flipped in flips {
+            let expected = match flipped.count_ones() {
+                1 => one_flip(clean),
+                _ => two_flips(idle_end),
+            };
+            self.carries(list, flipped, &idle, expected);
+        }
+    }
+
+    /// The list with the bits of the frame, these flipped: "each clock before the last has verdict
+    /// 0, and all outputs, bytes read and refusals before the last clock equal the idle list's".
+    fn carries(&mut self, list: &List, flipped: u64, idle: &Run, expected: End) {
+        let mut frame = list.sent.frame();
+        frame.number ^= flipped;
+        let calls = carrying(&list.idle, frame);
+        let run = self.bench.run(list.start, &calls);
+        let cases = &mut self.bench.cases;
+        let input = (list, flipped);
+        let finished = run.before().iter().find(|shown| shown.outputs.verdict != 0);
+        cases.same(input, finished, None);
+        cases.same(input, run.before(), idle.before());
+        cases.same(input, (run.last(), run.end), expected);
+        self.tallies.frame(list.sent, flipped, idle);
+    }
+}
+
+/// Each list with two single and two double flips.
+pub fn check<D: Device>(device: &mut D, seed: u64, lists: u64) {
+    let mut frames = Frames::new(device, "lists that carry a frame");
+    let mut random = Random::new(seed);
+    for _ in 0..lists {
+        let list = List::any(&mut random);
+        let frame = list.sent.frame();
+        let flips = [1, 1, 2, 2].map(|count| protected(&mut random, frame, count));
+        frames.list(&list, &flips);
+    }
+    frames.tallies.assert_complete();
+    frames.bench.accesses.assert_complete();
+    frames.bench.cases.at_least(lists * 6 * 30);
+}
+
+/// Every flip of one and of two protected bits.
+fn all_flips(frame: Frame) -> Vec<u64> {
+    let places = 1..u32::from(frame.length) - 2;
+    let mut flips: Vec<u64> = places.clone().map(|place| 1 << place).collect();
+    for first in places {
+        flips.extend((1..first).map(|second| 1 << first | 1 << second));
+    }
+    flips
+}
+
+/// Some lists with every flip of one and of two protected bits.
+pub fn check_all_flips<D: Device>(device: &mut D, seed: u64) {
+    let mut frames = Frames::new(device, "lists that carry a frame, with all flips");
+    let mut random = Random::new(seed);
+    for _ in 0..100 {
+        let list = List::any(&mut random);
+        let flips = all_flips(list.sent.frame());
+        match list.sent {
+            Sent::Short(_) => assert_eq!(flips.len(), 13 + 78),
+            Sent::Long(_) => assert_eq!(flips.len(), 39 + 741),
+        }
+        frames.list(&list, &flips);
+    }
+    frames.bench.cases.at_least(3_000_000);
+}

@@ -1,0 +1,100 @@
+//! Properly encoded frames, and what document 01's table says of their fields.
+
+use ttcrx_host::answer;
+use ttcrx_host::ffi::{Counters, Receiver, Settings};
+use ttcrx_host::model::{encode_long, encode_short, Fields};
+use ttcrx_host::random::Random;
+use ttcrx_host::traffic::{self, Frame, LIVELY};
+
+/// A properly encoded frame: any fields in range, the fixed bit 1 if long.
+#[derive(Clone, Copy, Debug)]
+pub enum Sent {
+    Short(u8),
+    Long(Fields),
+}
+
+impl Sent {
+    /// A frame for any row of the table at the receiver of this ID.
+    pub fn any(random: &mut Random, id: u16) -> Sent {
+        match random.once_in(3) {
+            true => Sent::Short(random.byte()),
+            false => Sent::Long(traffic::fields(random, id, LIVELY)),
+        }
+    }
+
+    pub fn frame(self) -> Frame {
+        match self {
+            Sent::Short(data) => Frame {
+                number: encode_short(data),
+                length: 16,
+            },
+            Sent::Long(fields) => Frame {
+                number: encode_long(fields).expect("in range"),
+                length: 42,
+            },
+        }
+    }
+
+    /// "Its 8 data or 32 word bits."
+    pub fn word(self) -> u32 {
+        match self {
+            Sent::Short(data) => data.into(),
+            Sent::Long(fields) => {
+                let address = u32::from(fields.address) << 18;
+                let e_and_fixed = u32::from(fields.e) << 17 | 1 << 16;
+                let sub_address = u32::from(fields.sub_address) << 8;
+                address | e_and_fixed | sub_address | u32::from(fields.data)
+            }
+        }
+    }
+
+    /// "Fate of a finished frame": the verdict of the first row that holds for these fields.
+    pub fn row(self, id: u16) -> u8 {
+        let Sent::Long(fields) = self else {
+            return 1;
+        };
+        let rows = [
+            (5, ![0, id].contains(&fields.address)),
+            (4, fields.e == 1),
+            (2, [0, 1, 2, 3].contains(&fields.sub_address)),
+            (3, fields.sub_address == 6),
+        ];
+        let first = rows.iter().find(|(_, holds)| *holds);
+        first.map_or(6, |(verdict, _)| *verdict)
+    }
+
+    /// The effect of that row, and status bit 5 at 1; "the rest of ... state is the idle list's".
+    pub fn effect(self, idle: Receiver) -> Receiver {
+        let ids = idle.core.ids;
+        let mut state = idle;
+        state.core.errors.status5 = 1;
+        match (self.row(ids.id), self) {
+            (1, Sent::Short(data)) => clear(&mut state.core.counters, data),
+            (2, Sent::Long(fields)) => store(&mut state.core.settings, fields),
+            (3, _) => state = answer::fresh(ids.id, ids.i2c).receiver,
+            _ => {}
+        }
+        state
+    }
+}
+
+/// "Data bit 0 clears the bunch counter, bit 1 the event counter."
+fn clear(counters: &mut Counters, data: u8) {
+    if data & 0b01 != 0 {
+        counters.bunch = 0;
+    }
+    if data & 0b10 != 0 {
+        counters.event = 0;
+    }
+}
+
+/// "Data goes to that register."
+fn store(settings: &mut Settings, fields: Fields) {
+    let register = match fields.sub_address {
+        0 => &mut settings.fine1,
+        1 => &mut settings.fine2,
+        2 => &mut settings.coarse,
+        _ => &mut settings.control,
+    };
+    *register = fields.data;
+}

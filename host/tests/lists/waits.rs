@@ -1,0 +1,128 @@
+//! "If channel B was 1 on its last 41 clocks, the receiver then waits for a start bit."
+
+use crate::bench::{Bench, Run};
+use ttcrx_host::calls::{Call, Mix};
+use ttcrx_host::coverage::{assert_seen, kind, Tally, KINDS};
+use ttcrx_host::device::{call, Device};
+use ttcrx_host::ffi::Held;
+use ttcrx_host::random::Random;
+use ttcrx_host::states;
+use ttcrx_host::traffic::{Traffic, LIVELY};
+
+const ONES: usize = 41;
+
+/// What the lists did to channel B before they ended.
+struct Tallies {
+    starts: Tally<2>,
+    verdicts: Tally<1>,
+    finishes: Tally<1>,
+    zeros: Tally<1>,
+    ends: Tally<1>,
+}
+
+impl Tallies {
+    fn new() -> Tallies {
+        let finishes = "of the last 41 clocks a frame ended on (0: on none)";
+        Tallies {
+            starts: Tally::of([("held bits at first", 0, 41), ("more than 41 clocks", 0, 1)]),
+            verdicts: Tally::of([("verdict", 0, 9)]),
+            finishes: Tally::of([(finishes, 0, 41)]),
+            zeros: Tally::of([("refused clocks with a 0 among the last 41", 0, 3)]),
+            ends: Tally::of([KINDS]),
+        }
+    }
+
+    fn list(&mut self, calls: &[Call], run: &Run) {
+        for verdict in run.verdicts() {
+            self.verdicts.seen([verdict]);
+        }
+        let clocks: Vec<u8> = calls
+            .iter()
+            .zip(run.verdicts())
+            .filter_map(|(call, verdict)| call.is_clock().then_some(verdict))
+            .collect();
+        let (front, last) = clocks.split_at(clocks.len() - ONES);
+        let more = !front.is_empty();
+        self.starts.seen([run.start.held.count, more.into()]);
+        let finish = last.iter().position(|verdict| *verdict != 0);
+        self.finishes
+            .seen([finish.map_or(0, |place| place as u8 + 1)]);
+        self.zeros.seen([refused_zeros(calls)]);
+        self.ends.seen([kind(*calls.last().expect("a call"))]);
+    }
+}
+
+/// How many refused clocks with a 0 on channel B stand among the last 41 clocks; 3 stands for more.
+fn refused_zeros(calls: &[Call]) -> u8 {
+    let mut clocks = 0;
+    let mut zeros = 0;
+    for call in calls.iter().rev() {
+        clocks += usize::from(call.is_clock());
+        if clocks == ONES {
+            break;
+        }
+        let zero = matches!(call, Call::Clock { data: 0, .. });
+        zeros += u8::from(zero && !call.is_clock());
+    }
+    zeros.min(3)
+}
+
+/// No clock or up to 120 of any traffic, then 41 ones; other calls between, and at the end.
+fn list(random: &mut Random, traffic: &mut Traffic) -> Vec<Call> {
+    let mix = Mix::any(random);
+    let mut calls = Vec::new();
+    let front = random.below(2) * random.below(121);
+    for _ in 0..front {
+        let (_, data) = traffic.clock();
+        mix.clock(random, data, &mut calls);
+    }
+    for _ in 0..ONES {
+        mix.clock(random, 1, &mut calls);
+    }
+    mix.others(random, &mut calls);
+    calls
+}
+
+/// On how many clocks at the end of a list channel B was 1. "A refused call is no clock."
+fn ones_at_the_end(calls: &[Call]) -> usize {
+    let clocks = calls.iter().rev().filter(|call| call.is_clock());
+    clocks
+        .take_while(|call| matches!(call, Call::Clock { data: 1, .. }))
+        .count()
+}
+
+/// "A receiver waits when it holds no frame bit and a 0 on the next clock would be a start bit."
+fn waits<D: Device>(bench: &mut Bench<D>, calls: &[Call], run: &Run, trigger: u8) {
+    let input = (run.start, calls);
+    let mut state = run.end;
+    bench.cases.same(input, state.held, Held::default());
+    let shown = call(bench.device, &mut state, Call::Clock { trigger, data: 0 });
+    let start_bit = Held { count: 1, bits: 0 };
+    let answer = (shown.refusal, shown.outputs.verdict, state.held);
+    bench.cases.same(input, answer, (0, 0, start_bit));
+}
+
+pub fn check<D: Device>(device: &mut D, seed: u64, lists: u64) {
+    let mut bench = Bench::new(device, "lists that end on 41 ones");
+    let mut tallies = Tallies::new();
+    let mut random = Random::new(seed);
+    let mut traffic = Traffic::new(seed);
+    for _ in 0..lists {
+        let start = states::well_formed(&mut random);
+        traffic.start(start.core.ids.id, LIVELY);
+        let calls = list(&mut random, &mut traffic);
+        assert!(ones_at_the_end(&calls) >= ONES);
+        let run = bench.run(start, &calls);
+        waits(&mut bench, &calls, &run, random.byte() >> 7);
+        tallies.list(&calls, &run);
+    }
+    assert_seen(&[
+        &tallies.starts,
+        &tallies.verdicts,
+        &tallies.finishes,
+        &tallies.zeros,
+        &tallies.ends,
+    ]);
+    bench.accesses.assert_complete();
+    bench.cases.at_least(lists * 100);
+}
