@@ -40,10 +40,10 @@ use Rattle.registers.specs.declared.ReadAnswer.{ReadAnswer}
 use Rattle.registers.specs.Access.{readRefusal, readAnswer, writeRefusal, writeAnswer}
 use Rattle.registers.proofs.Laws.{write-laws}
 use Rattle.guarantees.specs.Calls.{Call, clock, read, write, CallAnswer, CallResult, result, call, run, answers, refusalOf, carried, channelB, idleCall, idle}
-use Rattle.guarantees.specs.FrameLists.{bitsOf, ones, Sends, lastCall, QuietBefore}
+use Rattle.guarantees.specs.FrameLists.{bitsOf, Sends, lastCall, QuietBefore}
 use Rattle.guarantees.specs.LastClock.{withFrame, withCorrection, withDoubleError}
 use Rattle.guarantees.specs.Demand3 as demand
-use Rattle.guarantees.proofs.HeldBits.{heldOver, held-append, Bits, over-facts, forty-one, Holds, lead, by-lead, lead-held, last-held}
+use Rattle.guarantees.proofs.HeldBits.{heldOver, held-append, Bits, over-facts, enough-ones, Holds, lead, by-lead, lead-held, last-held}
 use Rattle.guarantees.proofs.OneCall.{accepted-bits, holding-none, refuses, keeps, finished-clock, holds-after}
 use Rattle.guarantees.proofs.Beside.{idle-clock, follows}
 use Rattle.guarantees.proofs.LastClock.{corrected-last, uncorrectable-last, corrected-frame, uncorrectable-frame}
@@ -180,10 +180,10 @@ module _ (columns : Kind → List ℕ) (good : GoodTables columns) where
 
   forty-one-ones : demand.FortyOneOnes columns
   forty-one-ones r calls earlier e h =
-      let bits = front-bits earlier (ones 41) (subst Bits h (channelB-bits calls)) in
+      let bits = front-bits earlier _ (subst Bits h (channelB-bits calls)) in
       let none : run columns r calls .held ≡ nothingHeld =
-      holds-run calls r e ∙ ap (heldOver (r .held)) h ∙ held-append (r .held) earlier (ones 41)
-      ∙ forty-one (heldOver (r .held) earlier) (over-facts earlier (r .held) bits (receiver-facts r e .of-held)) in
+      holds-run calls r e ∙ ap (heldOver (r .held)) h ∙ held-append (r .held) earlier _
+      ∙ enough-ones _ (heldOver (r .held) earlier) (omega arith) (over-facts earlier (r .held) bits (receiver-facts r e .of-held)) in
       laws .waits-law (run columns r calls) (stays-well-formed calls r e) .1 none
 
   ids-last : (r : Receiver) (before : List Call) (last : Call) → lastCall columns r before last .receiver .core .ids ≡ r .core .ids

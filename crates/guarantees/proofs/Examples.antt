@@ -1,6 +1,6 @@
 -- Lists of calls that compute. Assumes nothing.
-use mathlib.Core.Path.{_≡_, refl, sym, _∙_}
-use Prim.Native.Nat.{ℕ}
+use mathlib.Core.Path.{_≡_, refl}
+use Prim.Native.Nat.{ℕ, suc}
 use native.Mathlib.Omega.{arith}
 use lib.Count.{ones}
 use Rattle.laws.specs.Tests.{every}
@@ -9,7 +9,7 @@ use Rattle.hamming.specs.Code.{checkNumber, syndrome, firstFrom, bySyndrome, de
 use Rattle.frame.specs.Numbers.{isFrame}
 use Rattle.frame.specs.Decode.{judged}
 use Rattle.receiver_state.specs.WellFormed.{idsOk, settingsOk, countersOk, sequenceOk, coreOk, heldOk, wellFormed}
-use Rattle.fate.specs.Fate.{columnsOf, upTo, doubleUp, cleared, stored, fate, countErrors, finished, finishedAnswer}
+use Rattle.fate.specs.Fate.{upTo, doubleUp, cleared, stored, fate, countErrors, finished, finishedAnswer}
 use Rattle.receiver.specs.TakeBit.{frameOrPart, takeBit}
 use Rattle.receiver.specs.IdleClock.{countClock, continued, started, busStep, idleClock}
 use Rattle.receiver.specs.Clock.{stepAnswer, clockAnswer}
@@ -18,7 +18,7 @@ use Rattle.registers.specs.Access.{readRefusal, readAnswer, writeRefusal, write
 use Rattle.guarantees.specs.Calls.{call, run, answers, refusalOf, carried, channelB}
 use Rattle.guarantees.specs.FrameLists.{bitsOf, ones as onesOf}
 use Rattle.guarantees.specs.Existence.{carry}
-use Rattle.guarantees.specs.Examples.{TwentyCalls, started as started-receiver, idleClocks, FortyOnes}
+use Rattle.guarantees.specs.Examples.{TwentyCalls, FortyOnes}
 
 pub twenty-calls : TwentyCalls
 unfolding ones lowestOne checkNumber syndrome firstFrom bySyndrome decodeWord isFrame judged every idsOk settingsOk countersOk sequenceOk coreOk heldOk wellFormed upTo doubleUp cleared stored fate countErrors finished finishedAnswer frameOrPart takeBit countClock continued started busStep idleClock stepAnswer clockAnswer oneOf inMap registerByte readOnly configWrong written readRefusal readAnswer writeRefusal writeAnswer call run answers refusalOf carried channelB bitsOf carry
@@ -33,16 +33,9 @@ twenty-calls =
       three-flips = record { tells = refl; leaves = refl };
     }
 
-holds-41 : run columnsOf started-receiver (idleClocks 40) .held .count ≡ 41
-unfolding isFrame every idsOk settingsOk countersOk sequenceOk coreOk heldOk wellFormed frameOrPart takeBit countClock continued started busStep idleClock stepAnswer clockAnswer call run
-holds-41 = refl
+some : {n : ℕ} → suc n ≡ 0 → ⊥
+some e = omega arith
 
 pub forty-ones : FortyOnes
-unfolding every idsOk settingsOk countersOk sequenceOk coreOk heldOk wellFormed refusalOf carried channelB onesOf
-forty-ones =
-    record {
-      well-formed = refl;
-      forty = refl;
-      holds-41 = holds-41;
-      waits-not = λ w. let z : _≡_ {A = ℕ} 41 0 = sym holds-41 ∙ w .none-held in omega arith;
-    }
+unfolding isFrame every idsOk settingsOk countersOk sequenceOk coreOk heldOk wellFormed frameOrPart takeBit countClock continued started busStep idleClock stepAnswer clockAnswer call run refusalOf carried channelB onesOf
+forty-ones = record { well-formed = refl; forty = refl; holds-41 = refl; waits-not = λ w. some (w .none-held) }

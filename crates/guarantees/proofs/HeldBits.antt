@@ -85,9 +85,10 @@ ones-wait zero held f (inl z) = none-held (held .count) (held .bits) z f
 ones-wait zero held f (inr h) = absurd (omega (arith, f .few))
 ones-wait (suc k) held f near = ones-wait k (heldAfter (takeBit held 1)) (after-facts held 1 f (omega arith)) (nearer k held f near)
 
-pub forty-one : (held : Held) → HeldFacts held → heldOver held (ones 41) ≡ nothingHeld
-forty-one held f =
-    ones-wait 41 held f
+-- 41 are enough for every receiver
+pub enough-ones : (k : ℕ) (held : Held) → 41 ≤ k → HeldFacts held → heldOver held (ones k) ≡ nothingHeld
+enough-ones k held h f =
+    ones-wait k held f
     (by-test (eqb (held .count) 0) (λ t. inl (eqb-true (held .count) 0 t))
     (λ t. let n : held .count ≢ 0 = eqb-false (held .count) 0 t in inr (omega arith)))
 
