@@ -22,7 +22,7 @@ use Rattle.fate.specs.declared.Row.{Row}
 use Rattle.fate.specs.Fate.{row, upTo, doubleUp, foreign, fate, countErrors, shown, finished}
 use Rattle.fate.specs.FrameLaws.{OneHigher, ErrorsMove}
 
-one-higher : (top n : ℕ) → OneHigher top n (upTo top n)
+pub one-higher : (top n : ℕ) → OneHigher top n (upTo top n)
 unfolding upTo
 one-higher top n = record { higher = λ h. rw (lt-ltb _ _ h) refl; full = λ h. rw (le-ltb _ _ h) refl }
 

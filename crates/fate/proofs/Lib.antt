@@ -1,6 +1,6 @@
 pub mod Keep
 mod Rows
-mod Counts
+pub mod Counts
 mod Stored
 mod Cleared
 mod Verdicts

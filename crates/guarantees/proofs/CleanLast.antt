@@ -25,13 +25,9 @@ use Rattle.fate.specs.declared.Row.{Row}
 use Rattle.fate.specs.Fate.{foreign, fate, finished, finishedAnswer}
 use Rattle.fate.specs.FrameLaws.{GoodVerdict, ShowsFrame, SettingsMove, CountersMove, DoubleError, registerOf}
 use Rattle.fate.specs.Laws.{finishedBy, FateLaws}
-use Rattle.receiver.specs.TakeBit.{takeBit, Waits}
+use Rattle.receiver.proofs.Laws.{waits-none}
 use Rattle.guarantees.specs.Calls.{result}
 use Rattle.guarantees.specs.LastClock.{ShortEffect, LongEffect, EffectOf, RestAsIdle, CleanLast}
-
-pub waits-none : (core : Core) → Waits (receiver core nothingHeld)
-unfolding takeBit
-waits-none core = record { none-held = refl; start-next = refl }
 
 -- ---- a frame with fields has one of the verdicts 1 to 6
 

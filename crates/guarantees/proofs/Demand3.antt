@@ -34,7 +34,7 @@ use Rattle.receiver.specs.IdleClock.{idleClock}
 use Rattle.receiver.specs.Clock.{noOutputs}
 use Rattle.receiver.specs.StepLaws.{ShowsNothing}
 use Rattle.receiver.specs.Laws.{firstBits, ClockLaws}
-use Rattle.receiver.proofs.Laws.{clock-theorem}
+use Rattle.receiver.proofs.Laws.{waits-none, clock-theorem}
 use Rattle.registers.specs.declared.WriteAnswer.{WriteAnswer}
 use Rattle.registers.specs.declared.ReadAnswer.{ReadAnswer}
 use Rattle.registers.specs.Access.{readRefusal, readAnswer, writeRefusal, writeAnswer}
@@ -47,7 +47,7 @@ use Rattle.guarantees.proofs.HeldBits.{heldOver, held-append, Bits, ove
 use Rattle.guarantees.proofs.OneCall.{accepted-bits, holding-none, refuses, keeps, finished-clock, holds-after}
 use Rattle.guarantees.proofs.Beside.{idle-clock, follows}
 use Rattle.guarantees.proofs.LastClock.{corrected-last, uncorrectable-last, corrected-frame, uncorrectable-frame}
-use Rattle.guarantees.proofs.CleanLast.{waits-none, DecodesTo, clean-last}
+use Rattle.guarantees.proofs.CleanLast.{DecodesTo, clean-last}
 
 -- ---- bits of channel B
 

@@ -23,6 +23,7 @@ use Rattle.receiver.specs.TakeBit.{takeBit, heldAfter}
 use Rattle.receiver.specs.Laws.{firstBits, bitAfter}
 use Rattle.receiver.proofs.TakeBit.{TakenFacts, taken-facts}
 use Rattle.receiver.proofs.Bits.{bit-law}
+use Rattle.receiver.proofs.Laws.{none-held}
 use Rattle.guarantees.specs.FrameLists.{bitsOf, ones}
 
 -- ---- the bits held after a list of bits
@@ -54,10 +55,6 @@ over-facts [] held p f = f
 over-facts (b ∷ bs) held (p, q) f = over-facts bs (heldAfter (takeBit held b)) q (after-facts held b f p)
 
 -- ---- ones
-
-none-held : (count bits : ℕ) → count ≡ 0 → HeldFacts (holding count bits) → holding count bits ≡ nothingHeld
-none-held zero bits z f = ap (holding 0) (let s : bits * 2 < 2 ^ 0 = f .start in omega arith)
-none-held (suc count) bits z f = absurd (omega arith)
 
 -- k ones are enough for a receiver that waits, and for one that holds 42 - k bits
 abbrev Near : ℕ → Held → Type 0

@@ -2,7 +2,7 @@
 use mathlib.Core.Path.{_≡_, refl}
 use mathlib.Core.List.{List}
 use Prim.Native.Nat.{ℕ}
-use borrow.Author.Tests.{eq-eqb, ne-eqb, lt-ltb, le-ltb}
+use borrow.Author.Tests.{eq-eqb, ne-eqb}
 use lib.Dec.{eqb, ltb}
 use Rattle.laws.proofs.Rules.{by-test}
 use Rattle.frame.specs.declared.Kind.{Kind}
@@ -12,17 +12,13 @@ use Rattle.frame.specs.Decode.{bareAnswer}
 use Rattle.frame.specs.Frames.{fieldsAnswer}
 use Rattle.receiver_state.specs.declared.Core.{Core}
 use Rattle.receiver_state.specs.State.{receiver, nothingHeld}
-use Rattle.fate.specs.Fate.{upTo, doubleUp, foreign, fate, countErrors, finished, finishedAnswer}
-use Rattle.fate.specs.FrameLaws.{OneHigher}
+use Rattle.fate.specs.Fate.{doubleUp, foreign, fate, countErrors, finished, finishedAnswer}
 use Rattle.fate.specs.Laws.{finishedBy}
+use Rattle.fate.proofs.Counts.{one-higher}
 use Rattle.receiver.specs.TakeBit.{Waits}
 use Rattle.receiver.specs.IdleClock.{idleClock}
 use Rattle.guarantees.specs.Calls.{CallResult, result}
 use Rattle.guarantees.specs.LastClock.{withFrame, withCorrection, withDoubleError, CorrectedLast, UncorrectableLast}
-
-one-higher : (top n : ℕ) → OneHigher top n (upTo top n)
-unfolding upTo
-one-higher top n = record { higher = λ h. rw (lt-ltb _ _ h) refl; full = λ h. rw (le-ltb _ _ h) refl }
 
 pub corrected-last : (clean : CallResult) → Waits (clean .receiver) → CorrectedLast clean (withCorrection clean)
 corrected-last clean w =

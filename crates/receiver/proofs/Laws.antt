@@ -39,11 +39,11 @@ use Rattle.receiver.proofs.Advance.{unmoved-counters, advance}
 
 -- ---- waiting
 
-waits-none : (core : Core) → Waits (receiver core nothingHeld)
+pub waits-none : (core : Core) → Waits (receiver core nothingHeld)
 unfolding takeBit
 waits-none core = record { none-held = refl; start-next = refl }
 
-none-held : (count bits : ℕ) → count ≡ 0 → HeldFacts (holding count bits) → holding count bits ≡ nothingHeld
+pub none-held : (count bits : ℕ) → count ≡ 0 → HeldFacts (holding count bits) → holding count bits ≡ nothingHeld
 none-held zero bits z f = ap (holding 0) (let s : bits * 2 < 2 ^ 0 = f .start in omega arith)
 none-held (suc count) bits z f = absurd (omega arith)
 
