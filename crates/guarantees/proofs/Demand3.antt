@@ -40,7 +40,7 @@ use Rattle.registers.specs.declared.ReadAnswer.{ReadAnswer}
 use Rattle.registers.specs.Access.{readRefusal, readAnswer, writeRefusal, writeAnswer}
 use Rattle.registers.proofs.Laws.{write-laws}
 use Rattle.guarantees.specs.Calls.{Call, clock, read, write, CallAnswer, CallResult, result, call, run, answers, refusalOf, carried, channelB, idleCall, idle}
-use Rattle.guarantees.specs.FrameLists.{bitsOf, Sends, lastCall, QuietBefore}
+use Rattle.guarantees.specs.FrameLists.{bitsOf, Sends, lastCall, AsIdleBefore}
 use Rattle.guarantees.specs.LastClock.{withFrame, withCorrection, withDoubleError}
 use Rattle.guarantees.specs.Demand3 as demand
 use Rattle.guarantees.proofs.HeldBits.{heldOver, held-append, Bits, over-facts, enough-ones, Holds, lead, by-lead, lead-held, last-held}
@@ -207,7 +207,7 @@ module _ (columns : Kind → List ℕ) (good : GoodTables columns) where
 
   -- the last clock of a list that carries a frame, and that of its idle list, which comes from some core
   record Ending (r : Receiver) (before : List Call) (trigger bit : ℕ) (kind : Kind) (number : ℕ) : Type 0 where
-    pub quiet : QuietBefore columns r before
+    pub as-idle-before : AsIdleBefore columns r before
     pub core : Core
     pub ends : let done = finishedBy columns kind number (idleClock core trigger) in
         lastCall columns r before (clock trigger bit) ≡ result (receiver (done .core) nothingHeld) 0 (done .outputs) 0
@@ -222,11 +222,11 @@ module _ (columns : Kind → List ℕ) (good : GoodTables columns) where
       let taken : Holds nothingHeld (channelB before) (firstBits kind number (lead kind)) = rw (p .lead-bits) (lead-held kind number frame) in
       let f = follows columns laws before core nothingHeld (firstBits kind number (lead kind)) e taken in
       record {
-        quiet =
+        as-idle-before =
             record {
               verdict-0 = f .none;
-              answers-as-idle = f .same;
-              core-as-idle = ap (λ (r : Receiver). r .core) (f .here) ∙ sym (ap (λ (r : Receiver). r .core) (f .there));
+              answers-same = f .same;
+              core-same = ap (λ (r : Receiver). r .core) (f .here) ∙ sym (ap (λ (r : Receiver). r .core) (f .there));
             };
         core = f .last;
         ends = rw (f .here)
@@ -270,7 +270,7 @@ module _ (columns : Kind → List ℕ) (good : GoodTables columns) where
       let d = encoded-decodes kind fields range in
       let e = ending r before trigger bit kind (encodeFields (columns kind) kind fields) (d .is-frame) s in
       record {
-        quiet = e .quiet;
+        as-idle-before = e .as-idle-before;
         whole = whole r before trigger bit kind (encodeFields (columns kind) kind fields) 0 fields d e;
         by-name =
             rw (e .ends, e .idle-ends)
@@ -290,7 +290,13 @@ module _ (columns : Kind → List ℕ) (good : GoodTables columns) where
       ∙ corrected-frame kind fields (lastCall columns r (idle flipped) (clock trigger 1))
       ∙ ap (λ (cs : List Call). withCorrection (withFrame kind (fieldsAnswer kind 0 fields) (lastCall columns r cs (clock trigger 1)))) (sym same)
       ∙ ap withCorrection (sym (c .whole)) in
-      record { quiet = e .quiet; whole = equal; by-name = rw equal (corrected-last (lastCall columns r sound (clock trigger sent)) (c .by-name .waits)) }
+      record { as-idle-before = e .as-idle-before; whole = equal; by-name = rw equal (corrected-last (lastCall columns r sound (clock trigger sent)) (c .by-name .waits)) }
+
+  -- an idle clock shows neither flag nor word
+  idle-shows : (r : Receiver) (before : List Call) (trigger bit : ℕ) (kind : Kind) (number : ℕ) (e : Ending r before trigger bit kind number)
+      → let shown = lastCall columns r (idle before) (clock trigger 1) .answer .outputs in (shown .corrected ≡ 0) × (shown .word ≡ 0)
+  unfolding idleClock
+  idle-shows r before trigger bit kind number e = rw (e .idle-ends) (refl, refl)
 
   two-flips : demand.TwoFlips columns
   two-flips r before trigger bit kind fields p q range protected protected′ differ s =
@@ -299,9 +305,10 @@ module _ (columns : Kind → List ℕ) (good : GoodTables columns) where
       let frame = is-frame (columns kind) kind flipped (facts kind) (ap (λ (a : Answer). a .refusal) eight) in
       let e = ending r before trigger bit kind flipped frame s in
       let waits : Waits (lastCall columns r (idle before) (clock trigger 1) .receiver) = rw (e .idle-ends) (waits-none (idleClock (e .core) trigger .core)) in
+      let nothing-shown = idle-shows r before trigger bit kind flipped e in
       let equal : lastCall columns r before (clock trigger bit) ≡ withDoubleError (lastCall columns r (idle before) (clock trigger 1)) =
       rw (e .idle-ends) (e .ends ∙ uncorrectable-frame columns kind flipped (e .core) trigger (sym (answer-of columns kind flipped frame) ∙ eight)) in
-      record { quiet = e .quiet; whole = equal; by-name = rw equal (uncorrectable-last (lastCall columns r (idle before) (clock trigger 1)) waits) }
+      record { as-idle-before = e .as-idle-before; whole = equal; by-name = rw equal (uncorrectable-last (lastCall columns r (idle before) (clock trigger 1)) waits (nothing-shown .0) (nothing-shown .1)) }
 
 pub demand3-theorem : demand.Demand3Theorem
 demand3-theorem columns good =

@@ -1,4 +1,4 @@
--- Lists of calls that compute. Assumes nothing.
+-- Lists of calls whose answers are computed. Assumes nothing.
 use mathlib.Core.Path.{_≡_, refl}
 use Prim.Native.Nat.{ℕ, suc}
 use native.Mathlib.Omega.{arith}

@@ -44,12 +44,15 @@ corrected-last clean w =
       waits = record { none-held = w .none-held; start-next = w .start-next };
     }
 
-pub uncorrectable-last : (idle : CallResult) → Waits (idle .receiver) → UncorrectableLast idle (withDoubleError idle)
-uncorrectable-last idle w =
+pub uncorrectable-last : (idle : CallResult) → Waits (idle .receiver) → idle .answer .outputs .corrected ≡ 0 → idle .answer .outputs .word ≡ 0
+    → UncorrectableLast idle (withDoubleError idle)
+uncorrectable-last idle w f z =
     record {
       verdict-8 = refl;
       flag-same = refl;
+      flag-0 = f;
       word-same = refl;
+      word-0 = z;
       other-outputs =
           record {
             refusal-same = refl;

@@ -37,7 +37,8 @@ abbrev pub result : Receiver → ℕ → Outputs → ℕ → CallResult
 result r refusal outputs byte = record { receiver = r; answer = record { refusal = refusal; outputs = outputs; byte = byte } }
 
 -- The step of a list: "Each call answers, and refuses, exactly as demand 2's rules and the table of refusals say." `clockAnswer`, `readAnswer` and
--- `writeAnswer` are what the contracts of the functions `clock`, `read` and `write` equal; a read leaves the caller's state as `afterRead` says.
+-- `writeAnswer` are what the contracts of the functions `clock`, `read` and `write` equal. The function `read` gets a copy of the state: the core is left
+-- as `afterRead` says, and the frame bits held stay.
 unfoldable pub call : (Kind → List ℕ) → Receiver → Call → CallResult
 call columns r (clock trigger bit) =
     let done = clockAnswer columns r trigger bit in result (done .receiver) (done .refusal) (done .outputs) 0

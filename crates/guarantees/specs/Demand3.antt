@@ -1,6 +1,7 @@
 -- Document 01, "Demand 3, over lists of calls": the statement, over the columns of each kind of frame. Proved in proofs/Demand3.antt.
 -- "It is one claim about the whole list and not one for each call." What a single call gives is fixed by the definitions that `call` of Calls.antt
--- cites, with `ClockLaws`, `ReadLaws` and `WriteLaws` of the crates `receiver` and `registers`; this record does not repeat them.
+-- cites, with `ClockLaws`, `ReadLaws` and `WriteLaws` of the crates `receiver` and `registers`; of these, the record repeats only what a refused call
+-- leaves and answers.
 use Prim.Native.Nat.{ℕ}
 use mathlib.Core.Path.{_≡_}
 use mathlib.Core.Logic.{_≢_}
@@ -18,13 +19,13 @@ use Rattle.fate.specs.Laws.{GoodTables}
 use Rattle.receiver.specs.TakeBit.{Waits}
 use Rattle.receiver.specs.Clock.{noOutputs}
 use Rattle.guarantees.specs.Calls.{Call, clock, CallAnswer, CallResult, call, run, answers, refusalOf, channelB, idle}
-use Rattle.guarantees.specs.FrameLists.{ones, Sends, SameCalls, lastCall, QuietBefore, WholeList}
+use Rattle.guarantees.specs.FrameLists.{ones, Sends, SameCalls, lastCall, AsIdleBefore, WholeList}
 use Rattle.guarantees.specs.LastClock.{withFrame, withCorrection, withDoubleError, CleanLast, CorrectedLast, UncorrectableLast}
 
 module _ (columns : Kind → List ℕ) where
-  -- ---- every list, from any well-formed state
+  -- ---- every list
 
-  -- whether a call is refused, and by which number, depends on its arguments alone
+  -- from a well-formed state, whether a call is refused, and by which number, depends on its arguments alone
   abbrev pub Refusals : Type 0
   Refusals =
       (r : Receiver) (calls : List Call) → wellFormed r ≡ true
@@ -61,7 +62,7 @@ module _ (columns : Kind → List ℕ) where
 
   -- "no earlier clock finishes a frame, and the last gives it the fate that document 01's table gives its fields"
   pub record CleanFrame (r : Receiver) (before : List Call) (trigger bit : ℕ) (kind : Kind) (fields : Fields) : Type 0 where
-    pub quiet : QuietBefore columns r before
+    pub as-idle-before : AsIdleBefore columns r before
     pub whole : lastCall columns r before (clock trigger bit) ≡ withFrame kind (fieldsAnswer kind 0 fields) (idleLast r before trigger)
     pub by-name : CleanLast kind fields (r .core .ids) (idleLast r before trigger) (lastCall columns r before (clock trigger bit))
 
@@ -73,7 +74,7 @@ module _ (columns : Kind → List ℕ) where
 
   -- the list `clean` with the bit `sent` on its last clock carries the clean frame, `flipped` with `bit` the frame with one flip
   pub record OneFlipFrame (r : Receiver) (clean : List Call) (sent : ℕ) (flipped : List Call) (bit trigger : ℕ) : Type 0 where
-    pub quiet : QuietBefore columns r flipped
+    pub as-idle-before : AsIdleBefore columns r flipped
     pub whole : lastCall columns r flipped (clock trigger bit) ≡ withCorrection (lastCall columns r clean (clock trigger sent))
     pub by-name : CorrectedLast (lastCall columns r clean (clock trigger sent)) (lastCall columns r flipped (clock trigger bit))
 
@@ -88,7 +89,7 @@ module _ (columns : Kind → List ℕ) where
       → OneFlipFrame r clean sent flipped bit trigger
 
   pub record TwoFlipsFrame (r : Receiver) (before : List Call) (trigger bit : ℕ) : Type 0 where
-    pub quiet : QuietBefore columns r before
+    pub as-idle-before : AsIdleBefore columns r before
     pub whole : lastCall columns r before (clock trigger bit) ≡ withDoubleError (idleLast r before trigger)
     pub by-name : UncorrectableLast (idleLast r before trigger) (lastCall columns r before (clock trigger bit))
 
@@ -116,6 +117,7 @@ module _ (columns : Kind → List ℕ) where
 abbrev pub Demand3Theorem : Type 0
 Demand3Theorem = (columns : Kind → List ℕ) → GoodTables columns → Demand3 columns
 
--- the statement to hand over: document 01's own columns, as the receiver's code uses them
+-- The statement to hand over: document 01's own columns. It speaks of `clockAnswer columnsOf`, `readAnswer` and `writeAnswer`; the contracts in
+-- crates/receiver/src/lib.rt and crates/registers/src/lib.rt say that the functions give these, for every argument.
 abbrev pub ReceiverDemand3 : Type 0
 ReceiverDemand3 = Demand3 columnsOf

@@ -1,4 +1,4 @@
--- Lists of calls that compute, from the fresh state of ID 5 and I2C ID 5. Proved in proofs/Examples.antt.
+-- Lists of calls whose answers are computed, from the fresh state of ID 5 and I2C ID 5. Proved in proofs/Examples.antt.
 use Prim.Native.Nat.{ℕ, zero, suc}
 use mathlib.Core.Path.{_≡_}
 use mathlib.Core.Bool.{true}
@@ -38,8 +38,8 @@ abbrev pub frame : ℕ
 frame = encodeFields (columnsOf Short) Short (broadcast 1)
 
 -- single errors, double errors, status bit 5, bunch count, event count, control, frame bits held
-abbrev pub left : Receiver → List ℕ
-left r =
+abbrev pub stateNumbers : Receiver → List ℕ
+stateNumbers r =
     r .core .errors .single ∷ r .core .errors .double ∷ r .core .errors .status5
     ∷ r .core .counters .bunch ∷ r .core .counters .event ∷ r .core .settings .control ∷ r .held .count ∷ []
 
@@ -52,8 +52,8 @@ told a =
 abbrev nothing : List ℕ
 nothing = 0 ∷ 0 ∷ 0 ∷ 0 ∷ 0 ∷ 0 ∷ 0 ∷ 0 ∷ 0 ∷ []
 
--- the calls of the pattern before the last: bunch 0, event low 0 and event high 0 after the first trigger (mode 3); with control 1 (mode 1) bunch 3
--- after the second
+-- what the calls before the last answer: bunch 0, event low 0 and event high 0 from the first trigger on (mode 3); with control 1 (mode 1) bunch 3 on
+-- the second
 abbrev pub toldBefore : List (List ℕ)
 toldBefore =
     (0 ∷ 0 ∷ 1 ∷ 0 ∷ 1 ∷ 0 ∷ 0 ∷ 0 ∷ 0 ∷ [])
@@ -66,10 +66,10 @@ toldBefore =
     ∷ (5 ∷ 0 ∷ 0 ∷ 0 ∷ 0 ∷ 0 ∷ 0 ∷ 0 ∷ 0 ∷ [])
     ∷ nothing ∷ nothing ∷ nothing ∷ nothing ∷ nothing ∷ nothing ∷ nothing ∷ nothing ∷ nothing ∷ nothing ∷ nothing ∷ []
 
--- what the twenty calls tell and leave
+-- what the twenty calls answer, and what they leave in those seven numbers of the state
 pub record Gives (calls : List Call) (last state : List ℕ) : Type 0 where
   pub tells : map told (answers columnsOf start calls) ≡ toldBefore ++ (last ∷ [])
-  pub leaves : left (run columnsOf start calls) ≡ state
+  pub leaves : stateNumbers (run columnsOf start calls) ≡ state
 
 pub record TwentyCalls : Type 0 where
   pub frame-is : frame ≡ 0x004F
@@ -80,7 +80,7 @@ pub record TwentyCalls : Type 0 where
   pub clean : Gives (sending frame) (0 ∷ 0 ∷ 0 ∷ 0 ∷ 0 ∷ 0 ∷ 1 ∷ 0 ∷ 1 ∷ []) (0 ∷ 0 ∷ 1 ∷ 0 ∷ 2 ∷ 1 ∷ 0 ∷ [])
   -- one flip: the same with flag 1 and one single error
   pub one-flip : Gives (sending (flipProtected Short (Data 7) frame)) (0 ∷ 0 ∷ 0 ∷ 0 ∷ 0 ∷ 0 ∷ 1 ∷ 1 ∷ 1 ∷ []) (1 ∷ 0 ∷ 1 ∷ 0 ∷ 2 ∷ 1 ∷ 0 ∷ [])
-  -- two flips: verdict 8, the idle list's state with one double error
+  -- two flips: verdict 8, and the idle list's numbers with one double error
   pub two-flips : Gives (sending (flipProtected Short (Check 0) (flipProtected Short (Data 7) frame)))
       (0 ∷ 0 ∷ 0 ∷ 0 ∷ 0 ∷ 0 ∷ 8 ∷ 0 ∷ 0 ∷ []) (0 ∷ 1 ∷ 1 ∷ 16 ∷ 2 ∷ 1 ∷ 0 ∷ [])
   -- three flips, which nothing is claimed of: the broadcast of byte 0, sent with data bits 0, 1 and 2 flipped, is taken for that of byte 7 with a wrong
@@ -89,19 +89,19 @@ pub record TwentyCalls : Type 0 where
       (sending (flipProtected Short (Data 2) (flipProtected Short (Data 1) (flipProtected Short (Data 0) (encodeFields (columnsOf Short) Short (broadcast 0))))))
       (0 ∷ 0 ∷ 0 ∷ 0 ∷ 0 ∷ 0 ∷ 1 ∷ 1 ∷ 7 ∷ []) (1 ∷ 0 ∷ 1 ∷ 0 ∷ 0 ∷ 1 ∷ 0 ∷ [])
 
--- ---- 41 is tight
+-- ---- 40 ones are not enough
 
 -- a receiver that has just taken a start bit
-abbrev pub started : Receiver
-started = receiver (freshCore (ids 5 5)) (holding 1 0)
+abbrev pub afterStartBit : Receiver
+afterStartBit = receiver (freshCore (ids 5 5)) (holding 1 0)
 
 abbrev pub idleClocks : ℕ → List Call
 idleClocks zero = []
 idleClocks (suc n) = clock 0 1 ∷ idleClocks n
 
--- 40 ones are not enough: 41 bits of a long frame are held then
+-- 41 bits of a long frame are held then
 pub record FortyOnes : Type 0 where
-  pub well-formed : wellFormed started ≡ true
+  pub well-formed : wellFormed afterStartBit ≡ true
   pub forty : channelB (idleClocks 40) ≡ ones 40
-  pub holds-41 : run columnsOf started (idleClocks 40) .held .count ≡ 41
-  pub waits-not : Waits (run columnsOf started (idleClocks 40)) → ⊥
+  pub holds-41 : run columnsOf afterStartBit (idleClocks 40) .held .count ≡ 41
+  pub waits-not : Waits (run columnsOf afterStartBit (idleClocks 40)) → ⊥

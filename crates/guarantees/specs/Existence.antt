@@ -1,4 +1,4 @@
--- Lists as Demand3.antt speaks of exist, for every frame and every choice of triggers and accesses. Proved in proofs/Existence.antt.
+-- Lists such as Demand3.antt speaks of exist, for every frame and every choice of triggers and accesses. Proved in proofs/Existence.antt.
 use Prim.Native.Nat.{ℕ}
 use mathlib.Core.Path.{_≡_}
 use mathlib.Core.Bool.{true, cond}
@@ -22,7 +22,7 @@ carry (b ∷ bs) (write number value ∷ cs) = write number value ∷ carry (b �
 carry (b ∷ bs) (clock trigger other ∷ cs) =
     cond (eqb (refusalOf (clock trigger other)) 0) (clock trigger b ∷ carry bs cs) (clock trigger other ∷ carry (b ∷ bs) cs)
 
--- such a list, with the frame's last bit on the last clock
+-- a list with the calls of `pattern` that carries the number, its last bit on the last clock
 pub record Sending (r : Receiver) (pattern : List Call) (trigger : ℕ) (kind : Kind) (number : ℕ) : Type 0 where
   pub before : List Call
   pub bit : ℕ

@@ -39,12 +39,12 @@ module _ (columns : Kind → List ℕ) where
 
   -- "each clock before the last has verdict 0, and all outputs, bytes read and refusals before the last clock equal the idle list's"; the state too,
   -- but for the frame bits held
-  pub record QuietBefore (r : Receiver) (before : List Call) : Type 0 where
+  pub record AsIdleBefore (r : Receiver) (before : List Call) : Type 0 where
     pub verdict-0 : map (λ (a : CallAnswer). a .outputs .verdict) (answers columns r before) ≡ map (λ (c : Call). 0) before
-    pub answers-as-idle : answers columns r before ≡ answers columns r (idle before)
-    pub core-as-idle : run columns r before .core ≡ run columns r (idle before) .core
+    pub answers-same : answers columns r before ≡ answers columns r (idle before)
+    pub core-same : run columns r before .core ≡ run columns r (idle before) .core
 
-  -- the calls before and the last clock are the whole list, and so are those of its idle list
+  -- state and answers of the whole list, by the calls before and the last clock; and its idle list, if that clock is not refused
   pub record WholeList (r : Receiver) (before : List Call) (trigger bit : ℕ) : Type 0 where
     pub state : run columns r (before ++ (clock trigger bit ∷ [])) ≡ lastCall r before (clock trigger bit) .receiver
     pub answers-are : answers columns r (before ++ (clock trigger bit ∷ [])) ≡ answers columns r before ++ (lastCall r before (clock trigger bit) .answer ∷ [])

@@ -1,5 +1,5 @@
 -- Document 01, "Demand 3, over lists of calls": what the last clock of a list that carries a frame leaves and answers, as a whole and by name.
--- A `CallResult` or a core named `idle` is what the last clock of the idle list leaves.
+-- A result or a core named `idle` is what the last clock of the idle list leaves and answers, or leaves.
 use Prim.Native.Nat.{ℕ, _/_, _%_, _<_}
 use mathlib.Core.Path.{_≡_}
 use mathlib.Core.Logic.{_≢_}
@@ -58,7 +58,7 @@ withDoubleError idle =
 
 -- ---- by name
 
--- "effect of the table's row" of a short frame: "data bit 0 clears the bunch counter, bit 1 the event counter"
+-- "effect of the table's row" of a short frame: "data bit 0 clears the bunch counter, bit 1 the event counter" (the word: `word-is`)
 pub record ShortEffect (fields : Fields) (idle after : Core) : Type 0 where
   pub bunch-cleared : fields .«data» % 2 ≡ 1 → after .counters .bunch ≡ 0
   pub bunch-not-cleared : fields .«data» % 2 ≡ 0 → after .counters .bunch ≡ idle .counters .bunch
@@ -78,7 +78,7 @@ abbrev pub EffectOf : Kind → Fields → ℕ → Core → Core → Type 0
 EffectOf Short fields verdict idle after = ShortEffect fields idle after
 EffectOf Long fields verdict idle after = LongEffect fields verdict idle after
 
--- "the rest of outputs and state is the idle list's": what no row of that verdict changes
+-- "the rest of .. state is the idle list's": of the core, what the row of that verdict does not change; status bit 5 is `status-1`
 pub record RestAsIdle (verdict : ℕ) (idle after : Core) : Type 0 where
   pub ids-same : after .ids ≡ idle .ids
   pub settings-same : verdict ≢ 2 → verdict ≢ 3 → after .settings ≡ idle .settings
@@ -130,7 +130,9 @@ pub record CorrectedLast (clean done : CallResult) : Type 0 where
 pub record UncorrectableLast (idle done : CallResult) : Type 0 where
   pub verdict-8 : done .answer .outputs .verdict ≡ 8
   pub flag-same : done .answer .outputs .corrected ≡ idle .answer .outputs .corrected
+  pub flag-0 : done .answer .outputs .corrected ≡ 0
   pub word-same : done .answer .outputs .word ≡ idle .answer .outputs .word
+  pub word-0 : done .answer .outputs .word ≡ 0
   pub other-outputs : OtherOutputsSame idle done
   pub double-higher : OneHigher 255 (idle .receiver .core .errors .double) (done .receiver .core .errors .double)
   pub status-1 : done .receiver .core .errors .status5 ≡ 1
