@@ -228,9 +228,10 @@ ttcrx_clock_answer ttcrx_clock(ttcrx_receiver receiver, uint8_t trigger, uint8_t
 ttcrx_read_answer ttcrx_read(ttcrx_receiver receiver, uint8_t number);
 
 /*
- * Writes a byte to a register. Refusals, in this order: 2: a state that is not well formed; 5: a
- * register that is not in the map; 6: register 16, 17, 18 or 22; 7: register 20 or 21, and a byte
- * that differs from the fresh one in bits 6 to 0.
+ * Writes a byte to a register. Registers 0 to 3, 20 and 21 store it; a write to any byte of a
+ * counter clears all of the counter, whatever the value; register 11 stays 0. Refusals, in this
+ * order: 2: a state that is not well formed; 5: a register that is not in the map; 6: register 16,
+ * 17, 18 or 22; 7: register 20 or 21, and a byte that differs from the fresh one in bits 6 to 0.
  */
 ttcrx_write_answer ttcrx_write(ttcrx_receiver receiver, uint8_t number, uint8_t value);
 

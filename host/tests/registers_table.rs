@@ -8,7 +8,7 @@ use ttcrx_host::ffi::{Core, Counters, Errors, Held, Ids, Sequence, Settings};
 use ttcrx_host::random::Random;
 use ttcrx_host::{answer, states};
 
-/// A state in the middle of a frame and of a sequence, every byte of it another one.
+/// A state in the middle of a frame and of a sequence, in which no two registers hold the same byte.
 const STATE: Receiver = Receiver {
     core: Core {
         ids: Ids {

@@ -164,10 +164,10 @@ fn store_in(sub: u8, byte: u8, settings: Settings) -> Settings
 }
 
 // The core with a byte in register 0, 1, 2 or 3, as row 2 of the table and a register write store it.
-pub fn store_byte(sub: u8, byte: u8, core: Core) -> Core
-    ensures { λ r. ⌜ r ≡ withSettings (stored sub byte (core .settings)) core ⌝ }
+pub fn store_byte(number: u8, byte: u8, core: Core) -> Core
+    ensures { λ r. ⌜ r ≡ withSettings (stored number byte (core .settings)) core ⌝ }
 {
-    let settings = store_in(sub, byte, core.settings);
+    let settings = store_in(number, byte, core.settings);
     let mut next = core;
     next.settings = settings;
     next

@@ -50,9 +50,9 @@ uncorrectable-last idle w f z =
     record {
       verdict-8 = refl;
       flag-same = refl;
-      flag-0 = f;
+      no-flag = f;
       word-same = refl;
-      word-0 = z;
+      no-word = z;
       other-outputs =
           record {
             refusal-same = refl;

@@ -130,9 +130,9 @@ pub record CorrectedLast (clean done : CallResult) : Type 0 where
 pub record UncorrectableLast (idle done : CallResult) : Type 0 where
   pub verdict-8 : done .answer .outputs .verdict ≡ 8
   pub flag-same : done .answer .outputs .corrected ≡ idle .answer .outputs .corrected
-  pub flag-0 : done .answer .outputs .corrected ≡ 0
+  pub no-flag : done .answer .outputs .corrected ≡ 0
   pub word-same : done .answer .outputs .word ≡ idle .answer .outputs .word
-  pub word-0 : done .answer .outputs .word ≡ 0
+  pub no-word : done .answer .outputs .word ≡ 0
   pub other-outputs : OtherOutputsSame idle done
   pub double-higher : OneHigher 255 (idle .receiver .core .errors .double) (done .receiver .core .errors .double)
   pub status-1 : done .receiver .core .errors .status5 ≡ 1

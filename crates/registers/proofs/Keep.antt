@@ -1,5 +1,5 @@
 -- A register write keeps the core well formed. Assumes nothing.
-use mathlib.Core.Path.{_≡_, refl}
+use mathlib.Core.Path.{_≡_}
 use mathlib.Core.Bool.{false}
 use Prim.Native.Nat.{ℕ, _≤_}
 use native.Mathlib.Omega.{arith}
@@ -56,21 +56,20 @@ written-facts core number value e f =
     (picked CoreFacts (eqb number 27) (event-facts core f)
     (picked CoreFacts (eqb number 28) (event-facts core f) f)))))))))))
 
-pub written-ids : (core : Core) (number value : ℕ) → written core number value .ids ≡ core .ids
+-- what holds of the core, and with any settings, error counters or counters changed, holds after a write
+pub written-keeps : (P : Core → Type 0) (core : Core) (number value : ℕ) → ((new : Settings) → P (withSettings new core))
+    → ((new : Errors) → P (withErrors new core)) → ((new : Counters) → P (withCounters new core)) → P core → P (written core number value)
 unfolding written
-written-ids core number value =
-    picked Same (ltb number 4) refl
-    (picked Same (eqb number 8) refl
-    (picked Same (eqb number 9) refl
-    (picked Same (eqb number 10) refl
-    (picked Same (eqb number 11) refl
-    (picked Same (eqb number 20) refl
-    (picked Same (eqb number 21) refl
-    (picked Same (eqb number 24) refl
-    (picked Same (eqb number 25) refl
-    (picked Same (eqb number 26) refl
-    (picked Same (eqb number 27) refl
-    (picked Same (eqb number 28) refl refl)))))))))))
-  where
-    Same : Core → Type 0
-    Same after = after .ids ≡ core .ids
+written-keeps P core number value settings errors counters same =
+    picked P (ltb number 4) (settings _)
+    (picked P (eqb number 8) (errors _)
+    (picked P (eqb number 9) (errors _)
+    (picked P (eqb number 10) (errors _)
+    (picked P (eqb number 11) same
+    (picked P (eqb number 20) (settings _)
+    (picked P (eqb number 21) (settings _)
+    (picked P (eqb number 24) (counters _)
+    (picked P (eqb number 25) (counters _)
+    (picked P (eqb number 26) (counters _)
+    (picked P (eqb number 27) (counters _)
+    (picked P (eqb number 28) (counters _) same)))))))))))

@@ -1,6 +1,6 @@
 -- What holds of every register read and every register write. Assumes nothing.
-use mathlib.Core.Path.{_≡_, refl}
-use mathlib.Core.Logic.{_⊎_, inl, inr, ⊎-elim}
+use mathlib.Core.Path.{_≡_, refl, ap, _∙_}
+use mathlib.Core.Logic.{inl, inr, ⊎-elim}
 use mathlib.Core.Bool.{Bool, true, false, cond, not, _&&_, false≢true}
 use mathlib.Core.List.{List, [], _∷_}
 use Prim.Native.Nat.{ℕ, zero, suc, _+_, _*_, _/_, _%_, _^_, _<_, _≤_}
@@ -11,16 +11,18 @@ use lib.Dec.{eqb, ltb, lit<}
 use Rattle.laws.proofs.Below.{below}
 use Rattle.laws.proofs.Tests.{both}
 use Rattle.laws.proofs.Rules.{picked, picked-by}
+use Rattle.receiver_state.specs.declared.Core.{Core}
 use Rattle.receiver_state.specs.declared.Receiver.{Receiver}
-use Rattle.receiver_state.specs.State.{withSettings}
+use Rattle.receiver_state.specs.State.{errors, counters, receiver, withSettings, withErrors, withCounters}
 use Rattle.receiver_state.specs.WellFormed.{wellFormed}
 use Rattle.receiver_state.proofs.WellFormed.{receiver-facts, receiver-ok}
 use Rattle.fate.specs.Fate.{stored}
+use Rattle.fate.specs.FrameLaws.{registerOf}
 use Rattle.registers.specs.declared.WriteAnswer.{WriteAnswer}
-use Rattle.registers.specs.Map.{oneOf, mapNumbers, inMap, registerByte, readOnly, configWrong, clearEvent, written}
-use Rattle.registers.specs.Access.{readRefusal, readAnswer, writeRefusal, writtenTo, refusedWrite, writeAnswer}
-use Rattle.registers.specs.Laws.{gaps, MapLaws, ReadLaws, ReadOnly, WriteLaws, ReadBack}
-use Rattle.registers.proofs.Keep.{written-facts, written-ids}
+use Rattle.registers.specs.Map.{oneOf, mapNumbers, inMap, registerByte, readOnly, configWrong, written}
+use Rattle.registers.specs.Access.{byteAnswer, readRefusal, readAnswer, writeRefusal, writtenTo, refusedWrite, writeAnswer}
+use Rattle.registers.specs.Laws.{gaps, MapLaws, ReadLaws, SingleByte, BunchByte, EventByte, readAfter, ReadOnly, WriteLaws, ReadBack}
+use Rattle.registers.proofs.Keep.{written-facts, written-keeps}
 
 -- a rule for each number below 4
 below-4 : (P : ℕ → Type 0) → P 0 → P 1 → P 2 → P 3 → (n : ℕ) → n < 4 → P n
@@ -75,7 +77,9 @@ read-laws =
       id-bytes = λ core f. two-bytes (core .ids .id) (omega (arith, f .of-ids .below));
       bunch-bytes = λ core f. two-bytes (core .counters .bunch) (omega (arith, f .of-counters .bunch-below));
       event-bytes = λ core f. three-bytes (core .counters .event) (f .of-counters .event-below);
-      low-bytes = λ core. (mod-lt _ (lit< tt), mod-lt _ (lit< tt), mod-lt _ (lit< tt), mod-lt _ (lit< tt), mod-lt _ (lit< tt));
+      lower-bytes = λ core. (mod-lt _ (lit< tt), mod-lt _ (lit< tt), mod-lt _ (lit< tt), mod-lt _ (lit< tt), mod-lt _ (lit< tt));
+      setting-bytes = λ core number h. below-4 (λ (n : ℕ). registerByte core n ≡ registerOf (core .settings) n) refl refl refl refl number h;
+      config-bytes = λ core. (refl, refl);
       double-byte = λ core. refl;
       upset-0 = λ core. refl;
       i2c-byte = λ core. refl;
@@ -109,13 +113,25 @@ stays r number value e =
     (λ a. e))
     (λ t. e)
 
-ids-stay : (r : Receiver) (number value : ℕ) → writeAnswer r number value .receiver .core .ids ≡ r .core .ids
+-- what holds of a state, and with the core written, holds after a write, refused or not
+write-keeps : (P : Receiver → Type 0) (r : Receiver) (number value : ℕ) → P r → P (receiver (written (r .core) number value) (r .held))
+    → P (writeAnswer r number value .receiver)
 unfolding writeAnswer
-ids-stay r number value =
-    picked Same (wellFormed r) (picked Same (eqb (writeRefusal number value) 0) (written-ids (r .core) number value) refl) refl
+write-keeps P r number value same changed =
+    picked Kept (wellFormed r) (picked Kept (eqb (writeRefusal number value) 0) changed same) same
   where
-    Same : WriteAnswer → Type 0
-    Same done = done .receiver .core .ids ≡ r .core .ids
+    Kept : WriteAnswer → Type 0
+    Kept done = P (done .receiver)
+
+ids-stay : (r : Receiver) (number value : ℕ) → writeAnswer r number value .receiver .core .ids ≡ r .core .ids
+ids-stay r number value =
+    write-keeps (λ (x : Receiver). x .core .ids ≡ r .core .ids) r number value refl
+    (written-keeps (λ (core : Core). core .ids ≡ r .core .ids) (r .core) number value (λ new. refl) (λ new. refl) (λ new. refl) refl)
+
+sequence-stays : (r : Receiver) (number value : ℕ) → writeAnswer r number value .receiver .core .sequence ≡ r .core .sequence
+sequence-stays r number value =
+    write-keeps (λ (x : Receiver). x .core .sequence ≡ r .core .sequence) r number value refl
+    (written-keeps (λ (core : Core). core .sequence ≡ r .core .sequence) (r .core) number value (λ new. refl) (λ new. refl) (λ new. refl) refl)
 
 refused-6 : (r : Receiver) (number value : ℕ) → wellFormed r ≡ true → ReadOnly number → writeAnswer r number value ≡ refusedWrite 6 r
 unfolding writeAnswer writeRefusal inMap readOnly oneOf
@@ -124,8 +140,8 @@ refused-6 r number value e (inr (inl n)) = rw (e, n) refl
 refused-6 r number value e (inr (inr (inl n))) = rw (e, n) refl
 refused-6 r number value e (inr (inr (inr n))) = rw (e, n) refl
 
-event-cleared : (r : Receiver) (number value : ℕ) → wellFormed r ≡ true → (number ≡ 26) ⊎ ((number ≡ 27) ⊎ (number ≡ 28))
-    → writeAnswer r number value ≡ writtenTo r (clearEvent (r .core))
+event-cleared : (r : Receiver) (number value : ℕ) → wellFormed r ≡ true → EventByte number
+    → writeAnswer r number value ≡ writtenTo r (withCounters (counters (r .core .counters .bunch) 0) (r .core))
 unfolding writeAnswer writeRefusal written inMap readOnly configWrong oneOf
 event-cleared r number value e (inl n) = rw (e, n) refl
 event-cleared r number value e (inr (inl n)) = rw (e, n) refl
@@ -150,17 +166,59 @@ write-laws =
       event-cleared = event-cleared;
       stays-well-formed = stays;
       ids-stay = ids-stay;
+      sequence-stays = sequence-stays;
+      held-stays = λ r number value. write-keeps (λ (x : Receiver). x .held ≡ r .held) r number value refl refl;
     }
 
-pub read-back : ReadBack
+-- a read after a write that left this core
+read-after : (r : Receiver) (number value other : ℕ) (core : Core) (byte : ℕ) → wellFormed r ≡ true → writeAnswer r number value ≡ writtenTo r core
+    → inMap other ≡ true → registerByte core other ≡ byte → readAfter r number value other ≡ byteAnswer 0 byte
+read-after r number value other core byte e w i b =
+    read-laws .accepted (writeAnswer r number value .receiver) other (stays r number value e) i
+    ∙ ap (byteAnswer 0) (ap (λ (done : WriteAnswer). registerByte (done .receiver .core) other) w ∙ b)
+
+in-map-4 : (number : ℕ) → number < 4 → inMap number ≡ true
+unfolding inMap oneOf
+in-map-4 number h = below-4 (λ (n : ℕ). inMap n ≡ true) refl refl refl refl number h
+
+stored-back : (core : Core) (value number : ℕ) → number < 4 → registerByte (withSettings (stored number value (core .settings)) core) number ≡ value
 unfolding registerByte stored
+stored-back core value number h =
+    below-4 (λ (n : ℕ). registerByte (withSettings (stored n value (core .settings)) core) n ≡ value) refl refl refl refl number h
+
+single-zero : (other : ℕ) (core : Core) → core .errors .single ≡ 0 → SingleByte other → (inMap other ≡ true) × (registerByte core other ≡ 0)
+unfolding inMap oneOf registerByte
+single-zero other core z (inl n) = (rw n refl, rw (n, z) refl)
+single-zero other core z (inr n) = (rw n refl, rw (n, z) refl)
+
+bunch-zero : (other : ℕ) (core : Core) → core .counters .bunch ≡ 0 → BunchByte other → (inMap other ≡ true) × (registerByte core other ≡ 0)
+unfolding inMap oneOf registerByte
+bunch-zero other core z (inl n) = (rw n refl, rw (n, z) refl)
+bunch-zero other core z (inr n) = (rw n refl, rw (n, z) refl)
+
+event-zero : (other : ℕ) (core : Core) → core .counters .event ≡ 0 → EventByte other → (inMap other ≡ true) × (registerByte core other ≡ 0)
+unfolding inMap oneOf registerByte
+event-zero other core z (inl n) = (rw n refl, rw (n, z) refl)
+event-zero other core z (inr (inl n)) = (rw n refl, rw (n, z) refl)
+event-zero other core z (inr (inr n)) = (rw n refl, rw (n, z) refl)
+
+pub read-back : ReadBack
+unfolding registerByte inMap oneOf
 read-back =
     record {
-      stored-byte = λ core number value h. below-4 (λ (n : ℕ). registerByte (withSettings (stored n value (core .settings)) core) n ≡ value) refl refl refl refl number h;
-      config-2 = λ core value. refl;
-      config-3 = λ core value. refl;
-      single = λ core. (refl, refl);
-      double = λ core. refl;
-      bunch = λ core. (refl, refl);
-      event = λ core. (refl, refl, refl);
+      stored-byte = λ r number value e h.
+          read-after r number value number _ value e (write-laws .byte-stored r number value e h) (in-map-4 number h) (stored-back (r .core) value number h);
+      config-2 = λ r value e h. read-after r 20 value 20 _ value e (write-laws .config-2-stored r value e h) refl refl;
+      config-3 = λ r value e h. read-after r 21 value 21 _ value e (write-laws .config-3-stored r value e h) refl refl;
+      single = λ r number value other e n o.
+          let z = single-zero other (withErrors (errors 0 (r .core .errors .double) (r .core .errors .status5)) (r .core)) refl o in
+          read-after r number value other _ 0 e (write-laws .single-cleared r number value e n) (z .0) (z .1);
+      double = λ r value e. read-after r 10 value 10 _ 0 e (write-laws .double-cleared r value e) refl refl;
+      upset = λ r value e. read-after r 11 value 11 _ 0 e (write-laws .upset-accepted r value e) refl refl;
+      bunch = λ r number value other e n o.
+          let z = bunch-zero other (withCounters (counters 0 (r .core .counters .event)) (r .core)) refl o in
+          read-after r number value other _ 0 e (write-laws .bunch-cleared r number value e n) (z .0) (z .1);
+      event = λ r number value other e n o.
+          let z = event-zero other (withCounters (counters (r .core .counters .bunch) 0) (r .core)) refl o in
+          read-after r number value other _ 0 e (write-laws .event-cleared r number value e n) (z .0) (z .1);
     }

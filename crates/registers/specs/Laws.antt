@@ -4,12 +4,15 @@ use mathlib.Core.Path.{_≡_}
 use mathlib.Core.Logic.{_≢_, _⊎_}
 use mathlib.Core.Bool.{true, false, not}
 use mathlib.Core.List.{List, [], _∷_}
+use Rattle.receiver_state.specs.declared.Settings.{Settings}
 use Rattle.receiver_state.specs.declared.Core.{Core}
 use Rattle.receiver_state.specs.declared.Receiver.{Receiver}
-use Rattle.receiver_state.specs.State.{withSettings}
+use Rattle.receiver_state.specs.State.{errors, counters, withSettings, withErrors, withCounters}
 use Rattle.receiver_state.specs.WellFormed.{CoreFacts, wellFormed}
 use Rattle.fate.specs.Fate.{stored}
-use Rattle.registers.specs.Map.{oneOf, inMap, registerByte, setConfig2, setConfig3, clearSingle, clearDouble, clearBunch, clearEvent}
+use Rattle.fate.specs.FrameLaws.{registerOf}
+use Rattle.registers.specs.declared.ReadAnswer.{ReadAnswer}
+use Rattle.registers.specs.Map.{oneOf, inMap, registerByte}
 use Rattle.registers.specs.Access.{byteAnswer, refusedRead, readAnswer, writtenTo, refusedWrite, writeAnswer}
 
 -- ---- the numbers of the map
@@ -35,8 +38,11 @@ pub record ReadLaws : Type 0 where
   pub bunch-bytes : (core : Core) → CoreFacts core → registerByte core 24 + registerByte core 25 * 2 ^ 8 ≡ core .counters .bunch
   pub event-bytes : (core : Core) → CoreFacts core
       → registerByte core 26 + registerByte core 27 * 2 ^ 8 + registerByte core 28 * 2 ^ 16 ≡ core .counters .event
-  pub low-bytes : (core : Core) → let low = registerByte core in
-      (low 8 < 2 ^ 8) × (low 16 < 2 ^ 8) × (low 24 < 2 ^ 8) × (low 26 < 2 ^ 8) × (low 27 < 2 ^ 8)
+  -- each but the last of them is a byte
+  pub lower-bytes : (core : Core) → let byte = registerByte core in
+      (byte 8 < 2 ^ 8) × (byte 16 < 2 ^ 8) × (byte 24 < 2 ^ 8) × (byte 26 < 2 ^ 8) × (byte 27 < 2 ^ 8)
+  pub setting-bytes : (core : Core) (number : ℕ) → number < 4 → registerByte core number ≡ registerOf (core .settings) number
+  pub config-bytes : (core : Core) → (registerByte core 20 ≡ core .settings .config2) × (registerByte core 21 ≡ core .settings .config3)
   pub double-byte : (core : Core) → registerByte core 10 ≡ core .errors .double
   pub upset-0 : (core : Core) → registerByte core 11 ≡ 0
   pub i2c-byte : (core : Core) → registerByte core 18 ≡ core .ids .i2c
@@ -48,6 +54,16 @@ pub record ReadLaws : Type 0 where
 
 -- ---- writes
 
+-- the registers of each counter of more than one byte
+abbrev pub SingleByte : ℕ → Type 0
+SingleByte n = (n ≡ 8) ⊎ (n ≡ 9)
+
+abbrev pub BunchByte : ℕ → Type 0
+BunchByte n = (n ≡ 24) ⊎ (n ≡ 25)
+
+abbrev pub EventByte : ℕ → Type 0
+EventByte n = (n ≡ 26) ⊎ ((n ≡ 27) ⊎ (n ≡ 28))
+
 abbrev pub ReadOnly : ℕ → Type 0
 ReadOnly n = (n ≡ 16) ⊎ ((n ≡ 17) ⊎ ((n ≡ 18) ⊎ (n ≡ 22)))
 
@@ -55,7 +71,12 @@ ReadOnly n = (n ≡ 16) ⊎ ((n ≡ 17) ⊎ ((n ≡ 18) ⊎ (n ≡ 22)))
 abbrev pub ConfigDiffers : ℕ → ℕ → Type 0
 ConfigDiffers n value = ((n ≡ 20) × (value % 2 ^ 7 ≢ 0x85 % 2 ^ 7)) ⊎ ((n ≡ 21) × (value % 2 ^ 7 ≢ 0xA7 % 2 ^ 7))
 
--- each write that is not refused, by the whole state that it leaves: nothing else moves
+-- the settings with these Config bytes
+abbrev pub withConfigs : ℕ → ℕ → Settings → Settings
+withConfigs config2 config3 now =
+    record { fine1 = now .fine1; fine2 = now .fine2; coarse = now .coarse; control = now .control; config2 = config2; config3 = config3 }
+
+-- each write that is not refused, by the whole state that it leaves: the parts named are changed, and nothing else
 pub record WriteLaws : Type 0 where
   pub refused-by-2 : (r : Receiver) (number value : ℕ) → wellFormed r ≡ false → writeAnswer r number value ≡ refusedWrite 2 r
   pub refused-by-5 : (r : Receiver) (number value : ℕ) → wellFormed r ≡ true → inMap number ≡ false → writeAnswer r number value ≡ refusedWrite 5 r
@@ -64,32 +85,41 @@ pub record WriteLaws : Type 0 where
       → writeAnswer r number value ≡ refusedWrite 7 r
   pub byte-stored : (r : Receiver) (number value : ℕ) → wellFormed r ≡ true → number < 4
       → writeAnswer r number value ≡ writtenTo r (withSettings (stored number value (r .core .settings)) (r .core))
-  pub single-cleared : (r : Receiver) (number value : ℕ) → wellFormed r ≡ true → (number ≡ 8) ⊎ (number ≡ 9)
-      → writeAnswer r number value ≡ writtenTo r (clearSingle (r .core))
-  pub double-cleared : (r : Receiver) (value : ℕ) → wellFormed r ≡ true → writeAnswer r 10 value ≡ writtenTo r (clearDouble (r .core))
+  pub single-cleared : (r : Receiver) (number value : ℕ) → wellFormed r ≡ true → SingleByte number
+      → writeAnswer r number value ≡ writtenTo r (withErrors (errors 0 (r .core .errors .double) (r .core .errors .status5)) (r .core))
+  pub double-cleared : (r : Receiver) (value : ℕ) → wellFormed r ≡ true
+      → writeAnswer r 10 value ≡ writtenTo r (withErrors (errors (r .core .errors .single) 0 (r .core .errors .status5)) (r .core))
   pub upset-accepted : (r : Receiver) (value : ℕ) → wellFormed r ≡ true → writeAnswer r 11 value ≡ writtenTo r (r .core)
   pub config-2-stored : (r : Receiver) (value : ℕ) → wellFormed r ≡ true → value % 2 ^ 7 ≡ 0x85 % 2 ^ 7
-      → writeAnswer r 20 value ≡ writtenTo r (setConfig2 value (r .core))
+      → writeAnswer r 20 value ≡ writtenTo r (withSettings (withConfigs value (r .core .settings .config3) (r .core .settings)) (r .core))
   pub config-3-stored : (r : Receiver) (value : ℕ) → wellFormed r ≡ true → value % 2 ^ 7 ≡ 0xA7 % 2 ^ 7
-      → writeAnswer r 21 value ≡ writtenTo r (setConfig3 value (r .core))
-  pub bunch-cleared : (r : Receiver) (number value : ℕ) → wellFormed r ≡ true → (number ≡ 24) ⊎ (number ≡ 25)
-      → writeAnswer r number value ≡ writtenTo r (clearBunch (r .core))
-  pub event-cleared : (r : Receiver) (number value : ℕ) → wellFormed r ≡ true → (number ≡ 26) ⊎ ((number ≡ 27) ⊎ (number ≡ 28))
-      → writeAnswer r number value ≡ writtenTo r (clearEvent (r .core))
+      → writeAnswer r 21 value ≡ writtenTo r (withSettings (withConfigs (r .core .settings .config2) value (r .core .settings)) (r .core))
+  pub bunch-cleared : (r : Receiver) (number value : ℕ) → wellFormed r ≡ true → BunchByte number
+      → writeAnswer r number value ≡ writtenTo r (withCounters (counters 0 (r .core .counters .event)) (r .core))
+  pub event-cleared : (r : Receiver) (number value : ℕ) → wellFormed r ≡ true → EventByte number
+      → writeAnswer r number value ≡ writtenTo r (withCounters (counters (r .core .counters .bunch) 0) (r .core))
   pub stays-well-formed : (r : Receiver) (number value : ℕ) → wellFormed r ≡ true → wellFormed (writeAnswer r number value .receiver) ≡ true
-  -- refused or not
+  -- refused or not; so "A later write to the control register doesn't alter a running sequence."
   pub ids-stay : (r : Receiver) (number value : ℕ) → writeAnswer r number value .receiver .core .ids ≡ r .core .ids
+  pub sequence-stays : (r : Receiver) (number value : ℕ) → writeAnswer r number value .receiver .core .sequence ≡ r .core .sequence
+  pub held-stays : (r : Receiver) (number value : ℕ) → writeAnswer r number value .receiver .held ≡ r .held
 
 -- ---- what a read gives after a write
 
+-- a read of `other` after a write of `value` to `number`
+abbrev pub readAfter : Receiver → ℕ → ℕ → ℕ → ReadAnswer
+readAfter r number value other = readAnswer (writeAnswer r number value .receiver) other
+
 pub record ReadBack : Type 0 where
-  pub stored-byte : (core : Core) (number value : ℕ) → number < 4
-      → registerByte (withSettings (stored number value (core .settings)) core) number ≡ value
-  pub config-2 : (core : Core) (value : ℕ) → registerByte (setConfig2 value core) 20 ≡ value
-  pub config-3 : (core : Core) (value : ℕ) → registerByte (setConfig3 value core) 21 ≡ value
-  -- all bytes of a counter
-  pub single : (core : Core) → (registerByte (clearSingle core) 8 ≡ 0) × (registerByte (clearSingle core) 9 ≡ 0)
-  pub double : (core : Core) → registerByte (clearDouble core) 10 ≡ 0
-  pub bunch : (core : Core) → (registerByte (clearBunch core) 24 ≡ 0) × (registerByte (clearBunch core) 25 ≡ 0)
-  pub event : (core : Core) → let after = clearEvent core in
-      (registerByte after 26 ≡ 0) × (registerByte after 27 ≡ 0) × (registerByte after 28 ≡ 0)
+  pub stored-byte : (r : Receiver) (number value : ℕ) → wellFormed r ≡ true → number < 4 → readAfter r number value number ≡ byteAnswer 0 value
+  pub config-2 : (r : Receiver) (value : ℕ) → wellFormed r ≡ true → value % 2 ^ 7 ≡ 0x85 % 2 ^ 7 → readAfter r 20 value 20 ≡ byteAnswer 0 value
+  pub config-3 : (r : Receiver) (value : ℕ) → wellFormed r ≡ true → value % 2 ^ 7 ≡ 0xA7 % 2 ^ 7 → readAfter r 21 value 21 ≡ byteAnswer 0 value
+  -- a write to one byte of a counter clears every byte of it
+  pub single : (r : Receiver) (number value other : ℕ) → wellFormed r ≡ true → SingleByte number → SingleByte other
+      → readAfter r number value other ≡ byteAnswer 0 0
+  pub double : (r : Receiver) (value : ℕ) → wellFormed r ≡ true → readAfter r 10 value 10 ≡ byteAnswer 0 0
+  pub upset : (r : Receiver) (value : ℕ) → wellFormed r ≡ true → readAfter r 11 value 11 ≡ byteAnswer 0 0
+  pub bunch : (r : Receiver) (number value other : ℕ) → wellFormed r ≡ true → BunchByte number → BunchByte other
+      → readAfter r number value other ≡ byteAnswer 0 0
+  pub event : (r : Receiver) (number value other : ℕ) → wellFormed r ≡ true → EventByte number → EventByte other
+      → readAfter r number value other ≡ byteAnswer 0 0

@@ -1,7 +1,7 @@
 //! Lists that start from a waiting state, carry on their clocks exactly the bits of a properly
 //! encoded frame and end on the last of them.
 
-use crate::bench::{Bench, Run};
+use crate::runner::{Run, Runner};
 use crate::sent::Sent;
 use crate::tallies::Tallies;
 use ttcrx_host::calls::{carrying, Call, Mix};
@@ -34,7 +34,7 @@ impl List {
 }
 
 struct Frames<'a, D> {
-    bench: Bench<'a, D>,
+    runner: Runner<'a, D>,
     tallies: Tallies,
 }
 
@@ -81,16 +81,16 @@ fn two_flips((mut outputs, mut state): End) -> End {
 impl<'a, D: Device> Frames<'a, D> {
     fn new(device: &'a mut D, name: &'static str) -> Frames<'a, D> {
         Frames {
-            bench: Bench::new(device, name),
+            runner: Runner::new(device, name),
             tallies: Tallies::new(),
         }
     }
 
     /// The list idle, clean, and with each of these flips.
     fn list(&mut self, list: &List, flips: &[u64]) {
-        let idle = self.bench.run(list.start, &list.idle);
+        let idle = self.runner.run(list.start, &list.idle);
         let waits = (idle.last().verdict, idle.end.held);
-        self.bench.cases.same(list, waits, (0, Held::default()));
+        self.runner.cases.same(list, waits, (0, Held::default()));
         let idle_end = (idle.last(), idle.end);
         let clean = clean(list, idle_end);
         self.carries(list, 0, &idle, clean);
@@ -109,8 +109,8 @@ impl<'a, D: Device> Frames<'a, D> {
         let mut frame = list.sent.frame();
         frame.number ^= flipped;
         let calls = carrying(&list.idle, frame);
-        let run = self.bench.run(list.start, &calls);
-        let cases = &mut self.bench.cases;
+        let run = self.runner.run(list.start, &calls);
+        let cases = &mut self.runner.cases;
         let input = (list, flipped);
         let finished = run.before().iter().find(|shown| shown.outputs.verdict != 0);
         cases.same(input, finished, None);
@@ -131,8 +131,8 @@ pub fn check<D: Device>(device: &mut D, seed: u64, lists: u64) {
         frames.list(&list, &flips);
     }
     frames.tallies.assert_complete();
-    frames.bench.accesses.assert_complete();
-    frames.bench.cases.at_least(lists * 6 * 30);
+    frames.runner.accesses.assert_complete();
+    frames.runner.cases.at_least(lists * 6 * 30);
 }
 
 /// Every flip of one and of two protected bits.
@@ -158,5 +158,5 @@ pub fn check_all_flips<D: Device>(device: &mut D, seed: u64) {
         }
         frames.list(&list, &flips);
     }
-    frames.bench.cases.at_least(3_000_000);
+    frames.runner.cases.at_least(3_000_000);
 }

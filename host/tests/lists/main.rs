@@ -2,8 +2,8 @@
 //! read and written: of the model, of the library, and of the library with every answer compared
 //! with the model's. What is expected comes from the paper's words; the model's clock is not asked.
 
-mod bench;
 mod frames;
+mod runner;
 mod sent;
 mod tallies;
 mod waits;

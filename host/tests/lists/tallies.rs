@@ -1,6 +1,6 @@
 //! What the lists that carry a frame have tried.
 
-use crate::bench::Run;
+use crate::runner::Run;
 use crate::sent::Sent;
 use ttcrx_host::coverage::{assert_seen, Tally};
 use ttcrx_host::ffi::Errors;
@@ -52,7 +52,7 @@ impl Tallies {
         let flips = flipped.count_ones() as u8;
         let id = idle.end.core.ids.id;
         let row = sent.row(id);
-        let (trigger, left) = (idle.last().trigger, idle.eve.core.sequence.left);
+        let (trigger, left) = (idle.last().trigger, idle.before_last.core.sequence.left);
         self.rows.seen([row, flips, trigger, left]);
         match sent {
             Sent::Short(data) => self.broadcasts.seen([data % 4, flips, trigger, left]),

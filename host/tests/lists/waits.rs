@@ -1,6 +1,6 @@
 //! "If channel B was 1 on its last 41 clocks, the receiver then waits for a start bit."
 
-use crate::bench::{Bench, Run};
+use crate::runner::{Run, Runner};
 use ttcrx_host::calls::{Call, Mix};
 use ttcrx_host::coverage::{assert_seen, kind, Tally, KINDS};
 use ttcrx_host::device::{call, Device};
@@ -12,7 +12,7 @@ use ttcrx_host::traffic::{Traffic, LIVELY};
 const ONES: usize = 41;
 
 /// What the lists did to channel B before they ended.
-struct Tallies {
+struct EndTallies {
     starts: Tally<2>,
     verdicts: Tally<1>,
     finishes: Tally<1>,
@@ -20,10 +20,10 @@ struct Tallies {
     ends: Tally<1>,
 }
 
-impl Tallies {
-    fn new() -> Tallies {
+impl EndTallies {
+    fn new() -> EndTallies {
         let finishes = "of the last 41 clocks a frame ended on (0: on none)";
-        Tallies {
+        EndTallies {
             starts: Tally::of([("held bits at first", 0, 41), ("more than 41 clocks", 0, 1)]),
             verdicts: Tally::of([("verdict", 0, 9)]),
             finishes: Tally::of([(finishes, 0, 41)]),
@@ -92,19 +92,19 @@ fn ones_at_the_end(calls: &[Call]) -> usize {
 }
 
 /// "A receiver waits when it holds no frame bit and a 0 on the next clock would be a start bit."
-fn waits<D: Device>(bench: &mut Bench<D>, calls: &[Call], run: &Run, trigger: u8) {
+fn waits<D: Device>(runner: &mut Runner<D>, calls: &[Call], run: &Run, trigger: u8) {
     let input = (run.start, calls);
     let mut state = run.end;
-    bench.cases.same(input, state.held, Held::default());
-    let shown = call(bench.device, &mut state, Call::Clock { trigger, data: 0 });
+    runner.cases.same(input, state.held, Held::default());
+    let shown = call(runner.device, &mut state, Call::Clock { trigger, data: 0 });
     let start_bit = Held { count: 1, bits: 0 };
     let answer = (shown.refusal, shown.outputs.verdict, state.held);
-    bench.cases.same(input, answer, (0, 0, start_bit));
+    runner.cases.same(input, answer, (0, 0, start_bit));
 }
 
 pub fn check<D: Device>(device: &mut D, seed: u64, lists: u64) {
-    let mut bench = Bench::new(device, "lists that end on 41 ones");
-    let mut tallies = Tallies::new();
+    let mut runner = Runner::new(device, "lists that end on 41 ones");
+    let mut tallies = EndTallies::new();
     let mut random = Random::new(seed);
     let mut traffic = Traffic::new(seed);
     for _ in 0..lists {
@@ -112,8 +112,8 @@ pub fn check<D: Device>(device: &mut D, seed: u64, lists: u64) {
         traffic.start(start.core.ids.id, LIVELY);
         let calls = list(&mut random, &mut traffic);
         assert!(ones_at_the_end(&calls) >= ONES);
-        let run = bench.run(start, &calls);
-        waits(&mut bench, &calls, &run, random.byte() >> 7);
+        let run = runner.run(start, &calls);
+        waits(&mut runner, &calls, &run, random.byte() >> 7);
         tallies.list(&calls, &run);
     }
     assert_seen(&[
@@ -123,6 +123,6 @@ pub fn check<D: Device>(device: &mut D, seed: u64, lists: u64) {
         &tallies.zeros,
         &tallies.ends,
     ]);
-    bench.accesses.assert_complete();
-    bench.cases.at_least(lists * 100);
+    runner.accesses.assert_complete();
+    runner.cases.at_least(lists * 100);
 }

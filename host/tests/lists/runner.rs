@@ -7,7 +7,7 @@ use ttcrx_host::device::{call, Device, Shown};
 use ttcrx_host::ffi::{Outputs, Receiver};
 
 /// A device and what was compared and seen of it.
-pub struct Bench<'a, D> {
+pub struct Runner<'a, D> {
     pub device: &'a mut D,
     pub cases: Cases,
     pub accesses: Accesses,
@@ -18,7 +18,7 @@ pub struct Run {
     pub start: Receiver,
     shown: Vec<Shown>,
     /// The state before the last call.
-    pub eve: Receiver,
+    pub before_last: Receiver,
     pub end: Receiver,
 }
 
@@ -38,9 +38,9 @@ impl Run {
     }
 }
 
-impl<'a, D: Device> Bench<'a, D> {
-    pub fn new(device: &'a mut D, name: &'static str) -> Bench<'a, D> {
-        Bench {
+impl<'a, D: Device> Runner<'a, D> {
+    pub fn new(device: &'a mut D, name: &'static str) -> Runner<'a, D> {
+        Runner {
             device,
             cases: Cases::of(name),
             accesses: Accesses::default(),
@@ -53,14 +53,14 @@ impl<'a, D: Device> Bench<'a, D> {
         let mut run = Run {
             start,
             shown: Vec::with_capacity(calls.len()),
-            eve: start,
+            before_last: start,
             end: start,
         };
         for &each in calls {
-            run.eve = run.end;
+            run.before_last = run.end;
             let shown = call(self.device, &mut run.end, each);
             self.refuses(each, shown, &run);
-            self.accesses.call(&run.eve, each, &run.end);
+            self.accesses.call(&run.before_last, each, &run.end);
             run.shown.push(shown);
         }
         run
@@ -70,14 +70,15 @@ impl<'a, D: Device> Bench<'a, D> {
     /// nothing else and leaves the state.
     fn refuses(&mut self, call: Call, shown: Shown, run: &Run) {
         let refusal = call.refusal();
-        let input = (call, run.eve);
+        let input = (call, run.before_last);
         self.cases.same(input, shown.refusal, refusal);
         if refusal != 0 {
             let nothing = Shown {
                 refusal,
                 ..Shown::default()
             };
-            self.cases.same(input, (shown, run.end), (nothing, run.eve));
+            self.cases
+                .same(input, (shown, run.end), (nothing, run.before_last));
         }
     }
 }
