@@ -16,7 +16,7 @@ use Rattle.guarantees.specs.FrameLists.{bitsOf, SameCalls}
 use Rattle.guarantees.specs.Existence.{carry, ListsExist}
 use Rattle.guarantees.proofs.HeldBits.{Bits, lead, by-lead}
 use Rattle.guarantees.proofs.OneCall.{accepted-bits, bits-accepted}
-use Rattle.guarantees.proofs.Demand3.{channelB-append}
+use Rattle.guarantees.proofs.ChannelB.{channelB-append}
 
 record Carried (bs : List ℕ) (pattern calls : List Call) : Type 0 where
   pub bits : channelB calls ≡ bs

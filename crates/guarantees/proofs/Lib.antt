@@ -3,6 +3,9 @@ mod OneCall
 mod Beside
 mod LastClock
 mod CleanLast
+mod ChannelB
+mod EveryList
+mod Ending
 pub mod Demand3
 pub mod Existence
 pub mod Examples

@@ -1,0 +1,102 @@
+-- What holds of every list of calls. Assumes nothing.
+use mathlib.Core.Path.{_≡_, refl, sym, ap, subst, _∙_}
+use mathlib.Core.Logic.{_≢_}
+use mathlib.Core.Bool.{true}
+use mathlib.Core.List.{List, [], _∷_, _++_, map}
+use Prim.Native.Nat.{ℕ}
+use native.Mathlib.Omega.{arith}
+use lib.Dec.{eqb}
+use Rattle.laws.proofs.Rules.{picked}
+use Rattle.frame.specs.declared.Kind.{Kind}
+use Rattle.receiver_state.specs.declared.Held.{Held}
+use Rattle.receiver_state.specs.declared.Receiver.{Receiver}
+use Rattle.receiver_state.specs.State.{receiver, nothingHeld}
+use Rattle.receiver_state.specs.WellFormed.{wellFormed}
+use Rattle.receiver_state.proofs.WellFormed.{receiver-facts}
+use Rattle.fate.specs.declared.Outputs.{Outputs}
+use Rattle.receiver.specs.Clock.{noOutputs}
+use Rattle.receiver.specs.StepLaws.{ShowsNothing}
+use Rattle.receiver.specs.Laws.{ClockLaws}
+use Rattle.registers.specs.declared.WriteAnswer.{WriteAnswer}
+use Rattle.registers.specs.declared.ReadAnswer.{ReadAnswer}
+use Rattle.registers.specs.Access.{readRefusal, readAnswer, writeRefusal, writeAnswer}
+use Rattle.registers.proofs.Laws.{write-laws}
+use Rattle.guarantees.specs.Calls.{Call, clock, read, write, CallAnswer, call, run, answers, refusalOf, carried, channelB}
+use Rattle.guarantees.specs.FrameLists.{lastCall}
+use Rattle.guarantees.specs.Demand3 as demand
+use Rattle.guarantees.proofs.HeldBits.{heldOver, held-append, Bits, over-facts, enough-ones}
+use Rattle.guarantees.proofs.OneCall.{refuses, keeps, holds-after}
+use Rattle.guarantees.proofs.ChannelB.{channelB-bits, front-bits}
+
+shows-nothing : (shown : Outputs) → ShowsNothing shown → shown ≡ noOutputs
+shows-nothing shown n = rw (n .no-trigger, n .no-missed, n .no-strobe, n .no-number, n .no-verdict, n .no-flag, n .no-word) refl
+
+module _ (columns : Kind → List ℕ) (laws : ClockLaws columns) where
+  pub refusals : (cs : List Call) (r : Receiver) → wellFormed r ≡ true → map (λ (a : CallAnswer). a .refusal) (answers columns r cs) ≡ map refusalOf cs
+  unfolding answers
+  refusals [] r e = refl
+  refusals (c ∷ cs) r e = cc (refuses columns laws r c e, refusals cs (call columns r c .receiver) (keeps columns laws r c e))
+
+  pub refused-law : demand.RefusedLaw columns
+  unfolding call writeAnswer readAnswer
+  refused-law r (clock trigger bit) n = let law = laws .refused-law r trigger bit n in (law .0, shows-nothing _ (law .1), refl)
+  refused-law r (read number) n =
+      (refl, refl, picked Byte (wellFormed r) (picked Byte (eqb (readRefusal number) 0) (λ z. absurd (z refl)) (λ z. refl)) (λ z. refl) n)
+    where
+      Byte : ReadAnswer → Type 0
+      Byte done = done .refusal ≢ 0 → done .byte ≡ 0
+  refused-law r (write number value) n =
+      (picked Stays (wellFormed r) (picked Stays (eqb (writeRefusal number value) 0) (λ z. absurd (z refl)) (λ z. refl)) (λ z. refl) n, refl, refl)
+    where
+      Stays : WriteAnswer → Type 0
+      Stays done = done .refusal ≢ 0 → done .receiver ≡ r
+
+  ids-call : (r : Receiver) (c : Call) → call columns r c .receiver .core .ids ≡ r .core .ids
+  unfolding call
+  ids-call r (clock trigger bit) = laws .ids-stay r trigger bit
+  ids-call r (read number) = refl
+  ids-call r (write number value) = write-laws .ids-stay r number value
+
+  pub ids-stay : (cs : List Call) (r : Receiver) → run columns r cs .core .ids ≡ r .core .ids
+  unfolding run
+  ids-stay [] r = refl
+  ids-stay (c ∷ cs) r = ids-stay cs (call columns r c .receiver) ∙ ids-call r c
+
+  pub stays-well-formed : (cs : List Call) (r : Receiver) → wellFormed r ≡ true → wellFormed (run columns r cs) ≡ true
+  unfolding run
+  stays-well-formed [] r e = e
+  stays-well-formed (c ∷ cs) r e = stays-well-formed cs (call columns r c .receiver) (keeps columns laws r c e)
+
+  -- what a list leaves of the frame bits held
+  holds-run : (cs : List Call) (r : Receiver) → wellFormed r ≡ true → run columns r cs .held ≡ heldOver (r .held) (channelB cs)
+  unfolding run channelB heldOver
+  holds-run [] r e = refl
+  holds-run (c ∷ cs) r e =
+      holds-run cs (call columns r c .receiver) (keeps columns laws r c e)
+      ∙ ap (λ (held : Held). heldOver held (channelB cs)) (holds-after columns laws r c e)
+      ∙ sym (held-append (r .held) (carried c) (channelB cs))
+
+  pub forty-one-ones : demand.FortyOneOnes columns
+  forty-one-ones r calls earlier e h =
+      let bits = front-bits earlier _ (subst Bits h (channelB-bits calls)) in
+      let none : run columns r calls .held ≡ nothingHeld =
+      holds-run calls r e ∙ ap (heldOver (r .held)) h ∙ held-append (r .held) earlier _
+      ∙ enough-ones _ (heldOver (r .held) earlier) (omega arith) (over-facts earlier (r .held) bits (receiver-facts r e .of-held)) in
+      laws .waits-law (run columns r calls) (stays-well-formed calls r e) .1 none
+
+  pub ids-last : (r : Receiver) (before : List Call) (last : Call) → lastCall columns r before last .receiver .core .ids ≡ r .core .ids
+  unfolding lastCall
+  ids-last r before last = ids-call (run columns r before) last ∙ ids-stay before r
+
+  -- ---- the whole list and its last call
+
+  pub run-last : (cs : List Call) (r : Receiver) (last : Call) → run columns r (cs ++ (last ∷ [])) ≡ lastCall columns r cs last .receiver
+  unfolding run lastCall
+  run-last [] r last = refl
+  run-last (c ∷ cs) r last = run-last cs (call columns r c .receiver) last
+
+  pub answers-last : (cs : List Call) (r : Receiver) (last : Call)
+      → answers columns r (cs ++ (last ∷ [])) ≡ answers columns r cs ++ (lastCall columns r cs last .answer ∷ [])
+  unfolding run answers lastCall
+  answers-last [] r last = refl
+  answers-last (c ∷ cs) r last = ap (λ (later : List CallAnswer). call columns r c .answer ∷ later) (answers-last cs (call columns r c .receiver) last)
