@@ -31,7 +31,7 @@ use Rattle.guarantees.specs.Demand3 as demand
 use Rattle.guarantees.proofs.LastClock.{corrected-last, uncorrectable-last, corrected-frame, uncorrectable-frame}
 use Rattle.guarantees.proofs.CleanLast.{DecodesTo, clean-last}
 use Rattle.guarantees.proofs.ChannelB.{idle-last}
-use Rattle.guarantees.proofs.EveryList.{refusals, refused-law, ids-stay, ids-last, stays-well-formed, forty-one-ones, run-last, answers-last}
+use Rattle.guarantees.proofs.EveryList.{refusals, refused-law, reads-leave, ids-stay, ids-last, stays-well-formed, forty-one-ones, run-last, answers-last}
 use Rattle.guarantees.proofs.Ending.{Ending, ending}
 
 -- ---- frames
@@ -130,6 +130,7 @@ demand3-theorem columns good =
     record {
       refusals = λ r calls e. refusals columns (laws columns good) calls r e;
       refused-law = refused-law columns (laws columns good);
+      reads-leave = reads-leave columns (laws columns good);
       stays-well-formed = λ r calls e. stays-well-formed columns (laws columns good) calls r e;
       ids-stay = λ r calls. ids-stay columns (laws columns good) calls r;
       forty-one-ones = forty-one-ones columns (laws columns good);

@@ -51,6 +51,10 @@ module _ (columns : Kind → List ℕ) (laws : ClockLaws columns) where
       Stays : WriteAnswer → Type 0
       Stays done = done .refusal ≢ 0 → done .receiver ≡ r
 
+  pub reads-leave : demand.ReadsLeave columns
+  unfolding call
+  reads-leave r number = refl
+
   ids-call : (r : Receiver) (c : Call) → call columns r c .receiver .core .ids ≡ r .core .ids
   unfolding call
   ids-call r (clock trigger bit) = laws .ids-stay r trigger bit

@@ -15,7 +15,7 @@ use Rattle.registers.specs.Access.{readRefusal, readAnswer, afterRead, writeRef
 
 -- "The calls have any arguments."
 pub data Call : Type 0 where
-  -- the trigger bit and the bit of channel B
+  -- 01's "clock call": the trigger bit and the bit of channel B
   clock : ℕ → ℕ → Call
   -- the register's number
   read : ℕ → Call
@@ -37,7 +37,7 @@ abbrev pub result : Receiver → ℕ → Outputs → ℕ → CallResult
 result r refusal outputs byte = record { receiver = r; answer = record { refusal = refusal; outputs = outputs; byte = byte } }
 
 -- The step of a list: "Each call answers, and refuses, exactly as demand 2's rules and the table of refusals say." `clockAnswer`, `readAnswer` and
--- `writeAnswer` are what the contracts of the functions `clock`, `read` and `write` equal. The function `read` gets a copy of the state: the core is left
+-- `writeAnswer` are what the functions `clock`, `read` and `write` give by their contracts. The function `read` gets a copy of the state: the core is left
 -- as `afterRead` says, and the frame bits held stay.
 unfoldable pub call : (Kind → List ℕ) → Receiver → Call → CallResult
 call columns r (clock trigger bit) =

@@ -1,7 +1,8 @@
 -- Document 01, "Demand 3, over lists of calls": the statement, over the columns of each kind of frame. Proved in proofs/Demand3.antt.
 -- "It is one claim about the whole list and not one for each call." What a single call gives is fixed by the definitions that `call` of Calls.antt
 -- cites, with `ClockLaws`, `ReadLaws` and `WriteLaws` of the crates `receiver` and `registers`; of these, the record repeats only what a refused call
--- leaves and answers.
+-- leaves and answers, and that a read leaves the state.
+-- Words in quotation marks that document 01 does not have are the customer's demand 3.
 use Prim.Native.Nat.{ℕ}
 use mathlib.Core.Path.{_≡_}
 use mathlib.Core.Logic.{_≢_}
@@ -18,7 +19,7 @@ use Rattle.fate.specs.Fate.{columnsOf}
 use Rattle.fate.specs.Laws.{GoodTables}
 use Rattle.receiver.specs.TakeBit.{Waits}
 use Rattle.receiver.specs.Clock.{noOutputs}
-use Rattle.guarantees.specs.Calls.{Call, clock, CallAnswer, CallResult, call, run, answers, refusalOf, channelB, idle}
+use Rattle.guarantees.specs.Calls.{Call, clock, read, CallAnswer, CallResult, call, run, answers, refusalOf, channelB, idle}
 use Rattle.guarantees.specs.FrameLists.{ones, Sends, SameCalls, lastCall, AsIdleBefore, WholeList}
 use Rattle.guarantees.specs.LastClock.{withFrame, withCorrection, withDoubleError, CleanLast, CorrectedLast, UncorrectableLast}
 
@@ -36,6 +37,10 @@ module _ (columns : Kind → List ℕ) where
   RefusedLaw =
       (r : Receiver) (c : Call) → let done = call columns r c in
       done .answer .refusal ≢ 0 → (done .receiver ≡ r) × (done .answer .outputs ≡ noOutputs) × (done .answer .byte ≡ 0)
+
+  -- a read, refused or not, leaves the state as it was
+  abbrev pub ReadsLeave : Type 0
+  ReadsLeave = (r : Receiver) (number : ℕ) → call columns r (read number) .receiver ≡ r
 
   abbrev pub StaysWellFormed : Type 0
   StaysWellFormed = (r : Receiver) (calls : List Call) → wellFormed r ≡ true → wellFormed (run columns r calls) ≡ true
@@ -104,6 +109,7 @@ module _ (columns : Kind → List ℕ) where
   pub record Demand3 : Type 0 where
     pub refusals : Refusals
     pub refused-law : RefusedLaw
+    pub reads-leave : ReadsLeave
     pub stays-well-formed : StaysWellFormed
     pub ids-stay : IdsStay
     pub forty-one-ones : FortyOneOnes

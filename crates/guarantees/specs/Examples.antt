@@ -37,7 +37,7 @@ sending number = carry (bitsOf (frameBits Short) number) pattern
 abbrev pub frame : ℕ
 frame = encodeFields (columnsOf Short) Short (broadcast 1)
 
--- single errors, double errors, status bit 5, bunch count, event count, control, frame bits held
+-- single errors, double errors, status bit 5, bunch count, event count, control, how many frame bits are held
 abbrev pub stateNumbers : Receiver → List ℕ
 stateNumbers r =
     r .core .errors .single ∷ r .core .errors .double ∷ r .core .errors .status5
@@ -83,7 +83,7 @@ pub record TwentyCalls : Type 0 where
   -- two flips: verdict 8, and the idle list's numbers with one double error
   pub two-flips : Gives (sending (flipProtected Short (Check 0) (flipProtected Short (Data 7) frame)))
       (0 ∷ 0 ∷ 0 ∷ 0 ∷ 0 ∷ 0 ∷ 8 ∷ 0 ∷ 0 ∷ []) (0 ∷ 1 ∷ 1 ∷ 16 ∷ 2 ∷ 1 ∷ 0 ∷ [])
-  -- three flips, which nothing is claimed of: the broadcast of byte 0, sent with data bits 0, 1 and 2 flipped, is taken for that of byte 7 with a wrong
+  -- three flips, of which demand 3 claims nothing: the broadcast of byte 0, sent with data bits 0, 1 and 2 flipped, is taken for that of byte 7 with a wrong
   -- check bit, is executed, and clears both counters
   pub three-flips : Gives
       (sending (flipProtected Short (Data 2) (flipProtected Short (Data 1) (flipProtected Short (Data 0) (encodeFields (columnsOf Short) Short (broadcast 0))))))

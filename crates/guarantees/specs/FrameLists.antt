@@ -1,5 +1,6 @@
 -- Document 01, "Demand 3, over lists of calls": lists that carry a frame, and what holds of them before their last clock.
 -- A list that ends on a clock is written as the calls before, and the trigger and the channel B bit of that clock.
+-- Words in quotation marks that document 01 does not have are the customer's demand 3.
 use Prim.Native.Nat.{ℕ, zero, suc, _/_, _%_}
 use mathlib.Core.Path.{_≡_}
 use mathlib.Core.Bool.{true}

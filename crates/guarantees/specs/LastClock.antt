@@ -1,5 +1,6 @@
 -- Document 01, "Demand 3, over lists of calls": what the last clock of a list that carries a frame leaves and answers, as a whole and by name.
 -- A result or a core named `idle` is what the last clock of the idle list leaves and answers, or leaves.
+-- Words in quotation marks that document 01 does not have are the customer's demand 3.
 use Prim.Native.Nat.{ℕ, _/_, _%_, _<_}
 use mathlib.Core.Path.{_≡_}
 use mathlib.Core.Logic.{_≢_}

@@ -1,6 +1,6 @@
 -- What holds of every register read and every register write. Assumes nothing.
-use mathlib.Core.Path.{_≡_, refl, ap, _∙_}
-use mathlib.Core.Logic.{inl, inr, ⊎-elim}
+use mathlib.Core.Path.{_≡_, refl, sym, ap, _∙_}
+use mathlib.Core.Logic.{_≢_, inl, inr, ⊎-elim}
 use mathlib.Core.Bool.{Bool, true, false, cond, not, _&&_, false≢true}
 use mathlib.Core.List.{List, [], _∷_}
 use Prim.Native.Nat.{ℕ, zero, suc, _+_, _*_, _/_, _%_, _^_, _<_, _≤_}
@@ -10,14 +10,13 @@ use borrow.Author.Tests.{ne-eqb, not-true, ltb-true}
 use lib.Dec.{eqb, ltb, lit<}
 use Rattle.laws.proofs.Below.{below}
 use Rattle.laws.proofs.Tests.{both}
-use Rattle.laws.proofs.Rules.{picked, picked-by}
+use Rattle.laws.proofs.Rules.{picked, picked-by, by-test}
 use Rattle.receiver_state.specs.declared.Core.{Core}
 use Rattle.receiver_state.specs.declared.Receiver.{Receiver}
 use Rattle.receiver_state.specs.State.{errors, counters, receiver, withSettings, withErrors, withCounters}
 use Rattle.receiver_state.specs.WellFormed.{wellFormed}
 use Rattle.receiver_state.proofs.WellFormed.{receiver-facts, receiver-ok}
 use Rattle.fate.specs.Fate.{stored}
-use Rattle.fate.specs.FrameLaws.{registerOf}
 use Rattle.registers.specs.declared.WriteAnswer.{WriteAnswer}
 use Rattle.registers.specs.Map.{oneOf, mapNumbers, inMap, registerByte, readOnly, configWrong, written}
 use Rattle.registers.specs.Access.{byteAnswer, readRefusal, readAnswer, writeRefusal, writtenTo, refusedWrite, writeAnswer}
@@ -78,7 +77,7 @@ read-laws =
       bunch-bytes = λ core f. two-bytes (core .counters .bunch) (omega (arith, f .of-counters .bunch-below));
       event-bytes = λ core f. three-bytes (core .counters .event) (f .of-counters .event-below);
       lower-bytes = λ core. (mod-lt _ (lit< tt), mod-lt _ (lit< tt), mod-lt _ (lit< tt), mod-lt _ (lit< tt), mod-lt _ (lit< tt));
-      setting-bytes = λ core number h. below-4 (λ (n : ℕ). registerByte core n ≡ registerOf (core .settings) n) refl refl refl refl number h;
+      setting-bytes = λ core. (refl, refl, refl, refl);
       config-bytes = λ core. (refl, refl);
       double-byte = λ core. refl;
       upset-0 = λ core. refl;
@@ -186,6 +185,27 @@ unfolding registerByte stored
 stored-back core value number h =
     below-4 (λ (n : ℕ). registerByte (withSettings (stored n value (core .settings)) core) n ≡ value) refl refl refl refl number h
 
+stored-beside : (core : Core) (value other number : ℕ) → number < 4 → other ≢ number
+    → registerByte (withSettings (stored number value (core .settings)) core) other ≡ registerByte core other
+unfolding registerByte stored
+stored-beside core value other number h =
+    below-4 (λ (n : ℕ). other ≢ n → registerByte (withSettings (stored n value (core .settings)) core) other ≡ registerByte core other)
+    (λ d. rw (ne-eqb other 0 d) refl)
+    (λ d. rw (ne-eqb other 1 d) refl)
+    (λ d. rw (ne-eqb other 2 d) refl)
+    (λ d. rw (ne-eqb other 3 d) refl)
+    number
+    h
+
+others-stay : (r : Receiver) (number value other : ℕ) → wellFormed r ≡ true → number < 4 → other ≢ number → readAfter r number value other ≡ readAnswer r other
+others-stay r number value other e h d =
+    by-test (inMap other)
+    (λ i.
+    read-after r number value other _ (registerByte (r .core) other) e (write-laws .byte-stored r number value e h) i (stored-beside (r .core) value other number h d)
+    ∙ sym (read-laws .accepted r other e i))
+    (λ i.
+    read-laws .refused-by-5 (writeAnswer r number value .receiver) other (stays r number value e) i ∙ sym (read-laws .refused-by-5 r other e i))
+
 single-zero : (other : ℕ) (core : Core) → core .errors .single ≡ 0 → SingleByte other → (inMap other ≡ true) × (registerByte core other ≡ 0)
 unfolding inMap oneOf registerByte
 single-zero other core z (inl n) = (rw n refl, rw (n, z) refl)
@@ -208,6 +228,7 @@ read-back =
     record {
       stored-byte = λ r number value e h.
           read-after r number value number _ value e (write-laws .byte-stored r number value e h) (in-map-4 number h) (stored-back (r .core) value number h);
+      others-stay = others-stay;
       config-2 = λ r value e h. read-after r 20 value 20 _ value e (write-laws .config-2-stored r value e h) refl refl;
       config-3 = λ r value e h. read-after r 21 value 21 _ value e (write-laws .config-3-stored r value e h) refl refl;
       single = λ r number value other e n o.

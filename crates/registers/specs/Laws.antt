@@ -10,7 +10,6 @@ use Rattle.receiver_state.specs.declared.Receiver.{Receiver}
 use Rattle.receiver_state.specs.State.{errors, counters, withSettings, withErrors, withCounters}
 use Rattle.receiver_state.specs.WellFormed.{CoreFacts, wellFormed}
 use Rattle.fate.specs.Fate.{stored}
-use Rattle.fate.specs.FrameLaws.{registerOf}
 use Rattle.registers.specs.declared.ReadAnswer.{ReadAnswer}
 use Rattle.registers.specs.Map.{oneOf, inMap, registerByte}
 use Rattle.registers.specs.Access.{byteAnswer, refusedRead, readAnswer, writtenTo, refusedWrite, writeAnswer}
@@ -41,7 +40,8 @@ pub record ReadLaws : Type 0 where
   -- each but the last of them is a byte
   pub lower-bytes : (core : Core) → let byte = registerByte core in
       (byte 8 < 2 ^ 8) × (byte 16 < 2 ^ 8) × (byte 24 < 2 ^ 8) × (byte 26 < 2 ^ 8) × (byte 27 < 2 ^ 8)
-  pub setting-bytes : (core : Core) (number : ℕ) → number < 4 → registerByte core number ≡ registerOf (core .settings) number
+  pub setting-bytes : (core : Core) → let byte = registerByte core in
+      (byte 0 ≡ core .settings .fine1) × (byte 1 ≡ core .settings .fine2) × (byte 2 ≡ core .settings .coarse) × (byte 3 ≡ core .settings .control)
   pub config-bytes : (core : Core) → (registerByte core 20 ≡ core .settings .config2) × (registerByte core 21 ≡ core .settings .config3)
   pub double-byte : (core : Core) → registerByte core 10 ≡ core .errors .double
   pub upset-0 : (core : Core) → registerByte core 11 ≡ 0
@@ -112,6 +112,9 @@ readAfter r number value other = readAnswer (writeAnswer r number value .receive
 
 pub record ReadBack : Type 0 where
   pub stored-byte : (r : Receiver) (number value : ℕ) → wellFormed r ≡ true → number < 4 → readAfter r number value number ≡ byteAnswer 0 value
+  -- of the registers, only that one
+  pub others-stay : (r : Receiver) (number value other : ℕ) → wellFormed r ≡ true → number < 4 → other ≢ number
+      → readAfter r number value other ≡ readAnswer r other
   pub config-2 : (r : Receiver) (value : ℕ) → wellFormed r ≡ true → value % 2 ^ 7 ≡ 0x85 % 2 ^ 7 → readAfter r 20 value 20 ≡ byteAnswer 0 value
   pub config-3 : (r : Receiver) (value : ℕ) → wellFormed r ≡ true → value % 2 ^ 7 ≡ 0xA7 % 2 ^ 7 → readAfter r 21 value 21 ≡ byteAnswer 0 value
   -- a write to one byte of a counter clears every byte of it
