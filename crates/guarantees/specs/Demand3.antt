@@ -38,7 +38,7 @@ module _ (columns : Kind → List ℕ) where
       (r : Receiver) (c : Call) → let done = call columns r c in
       done .answer .refusal ≢ 0 → (done .receiver ≡ r) × (done .answer .outputs ≡ noOutputs) × (done .answer .byte ≡ 0)
 
-  -- a read, refused or not, leaves the state as it was
+  -- a read, refused or not, leaves the state as it was: the function gets a copy and returns none, and `call` is defined so
   abbrev pub ReadsLeave : Type 0
   ReadsLeave = (r : Receiver) (number : ℕ) → call columns r (read number) .receiver ≡ r
 

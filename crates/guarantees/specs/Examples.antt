@@ -84,7 +84,7 @@ pub record TwentyCalls : Type 0 where
   pub two-flips : Gives (sending (flipProtected Short (Check 0) (flipProtected Short (Data 7) frame)))
       (0 ∷ 0 ∷ 0 ∷ 0 ∷ 0 ∷ 0 ∷ 8 ∷ 0 ∷ 0 ∷ []) (0 ∷ 1 ∷ 1 ∷ 16 ∷ 2 ∷ 1 ∷ 0 ∷ [])
   -- three flips, of which demand 3 claims nothing: the broadcast of byte 0, sent with data bits 0, 1 and 2 flipped, is taken for that of byte 7 with a wrong
-  -- check bit, is executed, and clears both counters
+  -- check bit, is executed, and clears the bunch and the event counter
   pub three-flips : Gives
       (sending (flipProtected Short (Data 2) (flipProtected Short (Data 1) (flipProtected Short (Data 0) (encodeFields (columnsOf Short) Short (broadcast 0))))))
       (0 ∷ 0 ∷ 0 ∷ 0 ∷ 0 ∷ 0 ∷ 1 ∷ 1 ∷ 7 ∷ []) (1 ∷ 0 ∷ 1 ∷ 0 ∷ 0 ∷ 1 ∷ 0 ∷ [])

@@ -96,6 +96,7 @@ pub record OtherOutputsSame (one other : CallResult) : Type 0 where
 
 -- "On the last clock a clean frame has verdict and effect of the table's row for its fields .., its 8 data or 32 word bits as the word, flag 0, and
 -- status bit 5 becomes 1; the rest of outputs and state is the idle list's." `own` are the receiver's IDs.
+-- What a later request adds to the effect of a frame belongs in `EffectOf`.
 pub record CleanLast (kind : Kind) (fields : Fields) (own : Ids) (idle done : CallResult) : Type 0 where
   pub not-refused : done .answer .refusal ≡ 0
   pub verdict-of-row : GoodVerdict kind fields (own .id) (done .answer .outputs .verdict)

@@ -99,8 +99,9 @@ pub record WriteLaws : Type 0 where
   pub event-cleared : (r : Receiver) (number value : ℕ) → wellFormed r ≡ true → EventByte number
       → writeAnswer r number value ≡ writtenTo r (withCounters (counters (r .core .counters .bunch) 0) (r .core))
   pub stays-well-formed : (r : Receiver) (number value : ℕ) → wellFormed r ≡ true → wellFormed (writeAnswer r number value .receiver) ≡ true
-  -- refused or not; so "A later write to the control register doesn't alter a running sequence."
+  -- these three refused or not
   pub ids-stay : (r : Receiver) (number value : ℕ) → writeAnswer r number value .receiver .core .ids ≡ r .core .ids
+  -- "A later write to the control register doesn't alter a running sequence."
   pub sequence-stays : (r : Receiver) (number value : ℕ) → writeAnswer r number value .receiver .core .sequence ≡ r .core .sequence
   pub held-stays : (r : Receiver) (number value : ℕ) → writeAnswer r number value .receiver .held ≡ r .held
 
