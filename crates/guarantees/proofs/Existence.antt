@@ -11,8 +11,9 @@ use lib.ListN.{length, length-append}
 use Rattle.frame.specs.declared.Kind.{Kind}
 use Rattle.frame.specs.declared.Kind.the-variants.{Short, Long}
 use Rattle.frame.specs.Numbers.{frameBits}
+use Rattle.receiver.specs.WholeFrame.{bitsOf}
 use Rattle.guarantees.specs.Calls.{Call, clock, read, write, refusalOf, carried, channelB, idleCall, idle}
-use Rattle.guarantees.specs.FrameLists.{bitsOf, SameCalls}
+use Rattle.guarantees.specs.FrameLists.{SameCalls}
 use Rattle.guarantees.specs.Existence.{carry, ListsExist}
 use Rattle.guarantees.proofs.HeldBits.{Bits, lead, by-lead}
 use Rattle.guarantees.proofs.OneCall.{accepted-bits, bits-accepted}

@@ -1,7 +1,7 @@
 -- Document 01, "Demand 3, over lists of calls": lists that carry a frame, and what holds of them before their last clock.
 -- A list that ends on a clock is written as the calls before, and the trigger and the channel B bit of that clock.
 -- Words in quotation marks that document 01 does not have are the customer's demand 3.
-use Prim.Native.Nat.{ℕ, zero, suc, _/_, _%_}
+use Prim.Native.Nat.{ℕ, zero, suc}
 use mathlib.Core.Path.{_≡_}
 use mathlib.Core.Bool.{true}
 use mathlib.Core.List.{List, [], _∷_, _++_, map}
@@ -10,12 +10,8 @@ use Rattle.frame.specs.Numbers.{frameBits}
 use Rattle.receiver_state.specs.declared.Receiver.{Receiver}
 use Rattle.receiver_state.specs.WellFormed.{wellFormed}
 use Rattle.receiver.specs.TakeBit.{Waits}
+use Rattle.receiver.specs.WholeFrame.{bitsOf}
 use Rattle.guarantees.specs.Calls.{Call, clock, CallAnswer, CallResult, call, run, answers, refusalOf, channelB, idle}
-
--- the n low bits of a number, "first bit sent = most significant"
-unfoldable pub bitsOf : ℕ → ℕ → List ℕ
-bitsOf zero number = []
-bitsOf (suc n) number = bitsOf n (number / 2) ++ (number % 2 ∷ [])
 
 -- so many ones
 unfoldable pub ones : ℕ → List ℕ

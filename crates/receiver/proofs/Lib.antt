@@ -1,5 +1,6 @@
 pub mod TakeBit
 pub mod Bits
+pub mod WholeFrame
 pub mod Keep
 mod BusSequence
 mod Advance

@@ -2,16 +2,19 @@
 //
 // The state goes by value, in and out: see `receiver_state`.
 ghost use mathlib.Core.Path.{_≡_};
-ghost use Prim.Native.Nat.{_<_};
+ghost use Prim.Native.Nat.{_<_, _≤_, _/_, _%_, _^_};
 ghost use Rattle.receiver_state.specs.WellFormed.{ReceiverFacts};
+ghost use Rattle.frame.specs.Numbers.{frameBits};
 ghost use Rattle.fate.specs.Fate.{columnsOf};
 ghost use Rattle.receiver.specs.Clock.{applyFrame, stepAnswer, refusedClock, clockAnswer};
+ghost use Rattle.receiver.specs.WholeFrame.{bitsOf, clocksAnswer, noClock, receiveAnswer};
 use channel_b::held_after;
 use channel_b::take_bit;
 use fate::Clocked;
 use fate::Outputs;
 use fate::finish;
 use frame::Kind;
+use frame::is_frame;
 use idle::idle_clock;
 use receiver_state::Held;
 use receiver_state::Receiver;
@@ -104,4 +107,51 @@ pub fn clock(receiver: Receiver, trigger: u8, data: u8) -> ClockAnswer
         return refuse_clock(1, receiver);
     }
     step(receiver, trigger, data)
+}
+
+// The bit of a number at a place, 0 the least.
+fn bit_at(number: u64, place: u8) -> u8
+    requires { ⌜ place < 64 ⌝ }
+    ensures { λ r. ⌜ r ≡ number / 2 ^ place % 2 ⌝ }
+{
+    ((number >> place) % 2) as u8
+}
+
+// How many bits such a frame has.
+fn frame_bits(kind: Kind) -> u8
+    ensures { λ r. ⌜ r ≡ frameBits kind ⌝ }
+{
+    match kind {
+        Kind::Short => 16,
+        Kind::Long => 42,
+    }
+}
+
+// So many bits of a number, one a clock, without triggers, on a state that is known to be well formed.
+fn receive_bits(receiver: Receiver, count: u8, number: u64) -> ClockAnswer
+    requires { ⌜ (ReceiverFacts receiver) × (count ≤ 64) ⌝ }
+    ensures { λ r. ⌜ r ≡ clocksAnswer columnsOf (noClock receiver) (bitsOf count number) ⌝ }
+{
+    let mut answer = refuse_clock(0, receiver);
+    let mut left = count;
+    while left > 0 {
+        left -= 1;
+        let bit = bit_at(number, left);
+        answer = step(answer.receiver, 0, bit);
+    }
+    answer
+}
+
+// A whole frame, one bit a clock, without triggers: the answer of its last clock. The state is
+// checked once.
+pub fn receive_frame(receiver: Receiver, kind: Kind, number: u64) -> ClockAnswer
+    ensures { λ r. ⌜ r ≡ receiveAnswer columnsOf receiver kind number ⌝ }
+{
+    if !well_formed(receiver) {
+        return refuse_clock(2, receiver);
+    }
+    if !is_frame(kind, number) {
+        return refuse_clock(12, receiver);
+    }
+    receive_bits(receiver, frame_bits(kind), number)
 }
