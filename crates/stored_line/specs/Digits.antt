@@ -3,7 +3,7 @@ use Prim.Native.Nat.{ℕ, zero, suc, _+_, _-_, _*_, _/_, _%_, _^_}
 use mathlib.Core.Bool.{Bool, true, _&&_, cond}
 use mathlib.Core.List.{List, [], _∷_, _++_}
 use lib.Dec.{ltb, leb}
-use lib.ListN.{length}
+use lib.ListN.{length, drop}
 use Rattle.stored_line.specs.declared.Hex.{Hex}
 use Rattle.stored_line.specs.declared.Hex.the-variants.{Number, NoDigit}
 
@@ -42,3 +42,7 @@ digitCharacter value = cond (ltb value 10) (48 + value) (65 + (value - 10))
 unfoldable pub hexDigits : ℕ → ℕ → List ℕ
 hexDigits zero number = []
 hexDigits (suc digits) number = hexDigits digits (number / 16) ++ (digitCharacter (number % 16) ∷ [])
+
+-- these digits in front of the bytes beyond, which stay; a buffer without room for them stays as it was
+unfoldable pub hexWritten : ℕ → ℕ → List ℕ → List ℕ
+hexWritten digits number buffer = cond (ltb (length buffer) digits) buffer (hexDigits digits number ++ drop digits buffer)

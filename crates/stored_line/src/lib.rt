@@ -8,7 +8,7 @@ ghost use Prim.Native.Nat.{_≤_, _<_};
 ghost use mathlib.Core.List.{_++_};
 ghost use lib.ListN.{length, drop};
 ghost use Rattle.stored_line.specs.declared.StoredLine.the-variants.{Frame};
-ghost use Rattle.stored_line.specs.Digits.{between, digitValue, digitCharacter, hexDigits, hexAnswer};
+ghost use Rattle.stored_line.specs.Digits.{between, digitValue, digitCharacter, hexDigits, hexAnswer, hexWritten};
 ghost use Rattle.stored_line.specs.Read.{digitCount, readAs, readLine, lineAnswer};
 ghost use Rattle.stored_line.specs.Write.{written, writeLine};
 use frame::Kind;
@@ -174,6 +174,16 @@ fn write_digits(digits: usize, number: u64, buffer: &mut [u8])
         buffer[at] = digit_character((rest % 16) as u8);
         rest = rest / 16;
     }
+}
+
+// Writes the last so many digits of a number to the front of the buffer, if it has room for them.
+pub fn write_hex(digits: usize, number: u64, buffer: &mut [u8])
+    ensures { λ r. ⌜ now (buffer .exit) ≡ hexWritten digits number (now (buffer .entry)) ⌝ }
+{
+    if buffer.len() < digits {
+        return;
+    }
+    write_digits(digits, number, buffer);
 }
 
 // Writes the line of a frame, with its line feed, to the front of the buffer.

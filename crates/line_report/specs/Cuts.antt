@@ -1,0 +1,1 @@
+-- How an input is cut into pieces, and how large the buffers are, never shows. Proved in proofs/Cuts.antt.

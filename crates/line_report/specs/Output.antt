@@ -1,0 +1,61 @@
+-- Document 01, "Stored lines": what the program `ttclines` prints of an input as a whole, line by line.
+use Prim.Native.Nat.{ℕ, _+_, _%_, _^_}
+use mathlib.Core.Bool.{cond}
+use mathlib.Core.List.{List, [], _∷_, _++_}
+use lib.Dec.{eqb}
+use Rattle.frame.specs.declared.Kind.{Kind}
+use Rattle.receiver_state.specs.declared.Receiver.{Receiver}
+use Rattle.receiver_state.specs.State.{ids, freshState}
+use Rattle.receiver.specs.declared.ClockAnswer.{ClockAnswer}
+use Rattle.receiver.specs.Clock.{refusedClock}
+use Rattle.receiver.specs.WholeFrame.{receiveAnswer}
+use Rattle.stored_line.specs.declared.StoredLine.{StoredLine}
+use Rattle.stored_line.specs.declared.StoredLine.the-variants.{Frame, Refused}
+use Rattle.stored_line.specs.Read.{readLine}
+use Rattle.line_report.specs.Text.{wordDigits, lineText, endText}
+
+-- ---- lines
+
+-- the last line, if it has no line feed and is not empty: "a last line without line feed counts too"
+abbrev pub lastLine : List ℕ → List (List ℕ)
+lastLine [] = []
+lastLine (character ∷ characters) = (character ∷ characters) ∷ []
+
+-- the lines of an input behind the characters of a line so far. A line feed, 10, ends a line: "An empty line is a line".
+unfoldable pub linesAfter : List ℕ → List ℕ → List (List ℕ)
+linesAfter characters [] = lastLine characters
+linesAfter characters (byte ∷ bytes) = cond (eqb byte 10) (characters ∷ linesAfter [] bytes) (linesAfter (characters ++ (byte ∷ [])) bytes)
+
+abbrev pub linesOf : List ℕ → List (List ℕ)
+linesOf input = linesAfter [] input
+
+-- ---- what a line does and prints
+
+-- "feeds each line's bits with no triggers and no idle between": the last bit's clock. A refused line feeds no bit.
+abbrev pub lineAnswer : (Kind → List ℕ) → Receiver → StoredLine → ClockAnswer
+lineAnswer columns r (Frame kind number) = receiveAnswer columns r kind number
+lineAnswer columns r (Refused refusal) = refusedClock refusal r
+
+-- the number of the next line; it has 64 bits
+abbrev pub nextLine : ℕ → ℕ
+nextLine lines = (lines + 1) % 2 ^ 64
+
+-- the text of a line that comes behind so many lines
+abbrev pub linePrints : (Kind → List ℕ) → Receiver → ℕ → StoredLine → List ℕ
+linePrints columns r lines line = lineText (nextLine lines) (wordDigits line) (lineAnswer columns r line)
+
+-- ---- what an input prints
+
+-- lines on a receiver that has taken so many lines, and the end
+unfoldable pub linesPrint : (Kind → List ℕ) → Receiver → ℕ → List (List ℕ) → List ℕ
+linesPrint columns r lines [] = endText (r .core)
+linesPrint columns r lines (characters ∷ rest) =
+    linePrints columns r lines (readLine characters)
+    ++ linesPrint columns (lineAnswer columns r (readLine characters) .receiver) (nextLine lines) rest
+
+-- "has ID 5 and I2C ID 5, starts fresh"
+abbrev pub ownReceiver : Receiver
+ownReceiver = freshState (ids 5 5)
+
+unfoldable pub outputOf : (Kind → List ℕ) → List ℕ → List ℕ
+outputOf columns input = linesPrint columns ownReceiver 0 (linesOf input)

@@ -1,0 +1,146 @@
+-- The report of an input that comes in pieces: its state, one byte of input, a piece, and the end of input. `Report`, `LinePart` and `Reported`
+-- are structs of src/lib.rt.
+use Prim.Native.Nat.{ℕ, suc, _+_, _-_}
+use mathlib.Core.Bool.{cond}
+use mathlib.Core.List.{List, [], _∷_, _++_}
+use lib.Dec.{eqb, ltb, leb}
+use lib.ListN.{length, take, drop, set}
+use Rattle.frame.specs.declared.Kind.{Kind}
+use Rattle.receiver_state.specs.declared.Receiver.{Receiver}
+use Rattle.receiver.specs.declared.ClockAnswer.{ClockAnswer}
+use Rattle.stored_line.specs.declared.StoredLine.{StoredLine}
+use Rattle.stored_line.specs.declared.StoredLine.the-variants.{Refused}
+use Rattle.stored_line.specs.Read.{readLine}
+use Rattle.line_report.specs.declared.LinePart.{LinePart}
+use Rattle.line_report.specs.declared.Report.{Report}
+use Rattle.line_report.specs.declared.Reported.{Reported}
+use Rattle.line_report.specs.Text.{endText}
+use Rattle.line_report.specs.Output.{ownReceiver, lineAnswer, nextLine, linePrints}
+
+-- ---- the line so far
+
+abbrev pub linePart : ℕ → List ℕ → LinePart
+linePart count characters = record { count = count; characters = characters }
+
+abbrev pub noCharacters : List ℕ
+noCharacters = 0 ∷ 0 ∷ 0 ∷ 0 ∷ 0 ∷ 0 ∷ 0 ∷ 0 ∷ 0 ∷ 0 ∷ 0 ∷ []
+
+abbrev pub emptyPart : LinePart
+emptyPart = linePart 0 noCharacters
+
+-- more than 11 characters: whatever they are, and however many follow, the line will be refused by 10
+abbrev pub longPart : LinePart
+longPart = linePart 12 noCharacters
+
+-- one character more
+unfoldable pub withCharacter : LinePart → ℕ → LinePart
+withCharacter part character =
+    cond (ltb (part .count) 11) (linePart (part .count + 1) (set (part .characters) (part .count) character)) longPart
+
+-- the line, if it ends here
+unfoldable pub readPart : LinePart → StoredLine
+readPart part = cond (leb (part .count) 11) (readLine (take (part .count) (part .characters))) (Refused 10)
+
+-- ---- a byte of input
+
+abbrev pub report : Receiver → ℕ → LinePart → Report
+report r lines part = record { receiver = r; lines = lines; part = part }
+
+-- "has ID 5 and I2C ID 5, starts fresh"
+abbrev pub startReport : Report
+startReport = report ownReceiver 0 emptyPart
+
+module _ (columns : Kind → List ℕ) where
+  -- a line ends
+  abbrev pub lineEnded : Report → StoredLine → Report
+  lineEnded now line = report (lineAnswer columns (now .receiver) line .receiver) (nextLine (now .lines)) emptyPart
+
+  abbrev pub lineEndPrints : Report → StoredLine → List ℕ
+  lineEndPrints now line = linePrints columns (now .receiver) (now .lines) line
+
+  -- a line feed ends the line; any other byte is one more character
+  unfoldable pub afterByte : Report → ℕ → Report
+  afterByte now byte =
+      cond (eqb byte 10) (lineEnded now (readPart (now .part))) (report (now .receiver) (now .lines) (withCharacter (now .part) byte))
+
+  unfoldable pub bytePrints : Report → ℕ → List ℕ
+  bytePrints now byte = cond (eqb byte 10) (lineEndPrints now (readPart (now .part))) []
+
+  -- ---- all bytes of an input
+
+  unfoldable pub afterBytes : Report → List ℕ → Report
+  afterBytes now [] = now
+  afterBytes now (byte ∷ bytes) = afterBytes (afterByte now byte) bytes
+
+  unfoldable pub bytesPrint : Report → List ℕ → List ℕ
+  bytesPrint now [] = []
+  bytesPrint now (byte ∷ bytes) = bytePrints now byte ++ bytesPrint (afterByte now byte) bytes
+
+-- ---- a piece of the input, and a buffer
+
+-- the longest text of a line: a line number of 20 digits, verdict, flag, a word of 8 digits, three spaces and the line feed
+abbrev pub longestLine : ℕ
+longestLine = 34
+
+-- what a call leaves: the report, how many bytes of input it used, and the text it wrote
+pub record Work : Type 0 where
+  pub report : Report
+  pub used : ℕ
+  pub text : List ℕ
+
+abbrev pub work : Report → ℕ → List ℕ → Work
+work now used text = record { report = now; used = used; text = text }
+
+-- the same behind a byte of input that printed a text
+abbrev pub behind : List ℕ → Work → Work
+behind text rest = work (rest .report) (suc (rest .used)) (text ++ rest .text)
+
+module _ (columns : Kind → List ℕ) where
+  -- byte for byte, "until the chunk is used up or the buffer could not hold another line's report": `room` bytes of it are free
+  unfoldable pub workOn : ℕ → Report → List ℕ → Work
+  workOn room now [] = work now 0 []
+  workOn room now (byte ∷ bytes) =
+      cond (ltb room longestLine) (work now 0 [])
+      (behind (bytePrints columns now byte)
+      (workOn (room - length (bytePrints columns now byte)) (afterByte columns now byte) bytes))
+
+-- what a call answers, and what the whole lent buffer then holds: the text, and its bytes beyond as they were
+pub record Filled : Type 0 where
+  pub answer : Reported
+  pub buffer : List ℕ
+
+abbrev pub filled : Reported → List ℕ → Filled
+filled answer buffer = record { answer = answer; buffer = buffer }
+
+abbrev pub filledBy : Work → List ℕ → Filled
+filledBy done buffer =
+    filled
+    (record { report = done .report; used = done .used; written = length (done .text) })
+    (done .text ++ drop (length (done .text)) buffer)
+
+abbrev pub reportInput : (Kind → List ℕ) → Report → List ℕ → List ℕ → Filled
+reportInput columns now input buffer = filledBy (workOn columns (length buffer) now input) buffer
+
+-- ---- the end of input
+
+-- the longest text of the end: a last line, and `end` with numbers of 5, 3, 10 and 5 digits
+abbrev pub longestEnd : ℕ
+longestEnd = 65
+
+module _ (columns : Kind → List ℕ) where
+  -- a last line that has a character but no line feed ends here
+  unfoldable pub afterLast : Report → Report
+  afterLast now = cond (eqb (now .part .count) 0) now (lineEnded columns now (readPart (now .part)))
+
+  unfoldable pub lastPrints : Report → List ℕ
+  lastPrints now = cond (eqb (now .part .count) 0) [] (lineEndPrints columns now (readPart (now .part)))
+
+  abbrev pub endPrints : Report → List ℕ
+  endPrints now = lastPrints now ++ endText (afterLast now .receiver .core)
+
+  -- a smaller buffer writes nothing, and the report stays
+  unfoldable pub endWork : ℕ → Report → Work
+  endWork room now = cond (ltb room longestEnd) (work now 0 []) (work (afterLast now) 0 (endPrints now))
+
+abbrev pub reportEnd : (Kind → List ℕ) → Report → List ℕ → Filled
+reportEnd columns now buffer = filledBy (endWork columns (length buffer) now) buffer

@@ -1,0 +1,63 @@
+-- Document 01, "Stored lines": the text that `ttclines` prints of a line, and at the end, as lists of characters' codes.
+-- "One space stands between fields."
+use Prim.Native.Nat.{ℕ, zero, suc, _/_, _%_}
+use mathlib.Core.Bool.{cond}
+use mathlib.Core.List.{List, [], _∷_, _++_}
+use lib.Dec.{eqb, ltb}
+use Rattle.frame.specs.declared.Kind.the-variants.{Short, Long}
+use Rattle.receiver_state.specs.declared.Core.{Core}
+use Rattle.fate.specs.declared.Outputs.{Outputs}
+use Rattle.receiver.specs.declared.ClockAnswer.{ClockAnswer}
+use Rattle.stored_line.specs.declared.StoredLine.{StoredLine}
+use Rattle.stored_line.specs.declared.StoredLine.the-variants.{Frame, Refused}
+use Rattle.stored_line.specs.Digits.{digitCharacter, hexDigits}
+
+-- a number below 10^(more + 1), without leading zeros
+unfoldable pub decimalUpTo : ℕ → ℕ → List ℕ
+decimalUpTo zero number = digitCharacter (number % 10) ∷ []
+decimalUpTo (suc more) number =
+    cond (ltb number 10) (digitCharacter number ∷ []) (decimalUpTo more (number / 10) ++ (digitCharacter (number % 10) ∷ []))
+
+-- "in decimal": 20 digits are enough for every number below 2^64
+unfoldable pub decimal : ℕ → List ℕ
+decimal number = decimalUpTo 19 number
+
+-- "2 or 8 capital digits", by the kind of frame
+abbrev pub wordDigits : StoredLine → ℕ
+wordDigits (Frame Short number) = 2
+wordDigits (Frame Long number) = 8
+wordDigits (Refused refusal) = 0
+
+-- "word (2 or 8 capital digits, `-` for 7 and 8)"
+unfoldable pub wordText : ℕ → Outputs → List ℕ
+wordText digits shown =
+    cond (eqb (shown .verdict) 7) (45 ∷ [])
+    (cond (eqb (shown .verdict) 8) (45 ∷ [])
+    (hexDigits digits (shown .word)))
+
+-- "verdict, corrected flag, word"
+unfoldable pub fateText : ℕ → Outputs → List ℕ
+fateText digits shown = decimal (shown .verdict) ++ ((32 ∷ decimal (shown .corrected)) ++ (32 ∷ wordText digits shown))
+
+-- "`!`, refusal"
+unfoldable pub refusalText : ℕ → List ℕ
+refusalText refusal = 33 ∷ 32 ∷ decimal refusal
+
+unfoldable pub answerText : ℕ → ClockAnswer → List ℕ
+answerText digits answer = cond (eqb (answer .refusal) 0) (fateText digits (answer .outputs)) (refusalText (answer .refusal))
+
+-- "line number, verdict, corrected flag, word ..; or line number, `!`, refusal", and a line feed
+unfoldable pub lineText : ℕ → ℕ → ClockAnswer → List ℕ
+lineText number digits answer = decimal number ++ (32 ∷ (answerText digits answer ++ (10 ∷ [])))
+
+-- "single errors, double errors, event count, bunch count, in decimal"
+unfoldable pub countsText : Core → List ℕ
+countsText core =
+    (32 ∷ decimal (core .errors .single))
+    ++ ((32 ∷ decimal (core .errors .double))
+    ++ ((32 ∷ decimal (core .counters .event))
+    ++ (32 ∷ decimal (core .counters .bunch))))
+
+-- "Last: `end`", the counts, and a line feed
+unfoldable pub endText : Core → List ℕ
+endText core = 101 ∷ 110 ∷ 100 ∷ (countsText core ++ (10 ∷ []))

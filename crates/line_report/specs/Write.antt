@@ -1,0 +1,11 @@
+-- A text stored in a buffer from a place on.
+use Prim.Native.Nat.{ℕ, _+_}
+use mathlib.Core.Path.{_≡_}
+use mathlib.Core.List.{List}
+use lib.ListN.{length}
+use lib.Seq.{sets}
+
+-- the place behind the text, and what the buffer then holds
+pub record TextAt (next at : ℕ) (text before after : List ℕ) : Type 0 where
+  pub next-is : next ≡ at + length text
+  pub stored : after ≡ sets before at text

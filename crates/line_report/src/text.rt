@@ -1,0 +1,117 @@
+// Document 01, "Stored lines": the text of a line's report, and of the end. Each function stores its
+// text from a place of the buffer on, where there is room for it, and answers the place behind it.
+ghost use mathlib.Core.Path.{_≡_};
+ghost use mathlib.Core.List.{[], _∷_, _++_};
+ghost use Prim.Native.Nat.{_+_, _≤_, _<_};
+ghost use lib.ListN.{length};
+ghost use Rattle.line_report.specs.Text.{decimal, wordText, fateText, refusalText, answerText, lineText, countsText, endText};
+ghost use Rattle.line_report.specs.Write.{TextAt};
+use fate::Outputs;
+use receiver::ClockAnswer;
+use receiver_state::Core;
+use stored_line::write_hex;
+
+fn put(character: u8, at: usize, out: &mut [u8]) -> usize
+    requires { ⌜ at < length (now out) ⌝ }
+    ensures { λ r. ⌜ TextAt r at (character ∷ []) (now (out .entry)) (now (out .exit)) ⌝ }
+{
+    out[at] = character;
+    at + 1
+}
+
+fn put_decimal(number: u64, at: usize, out: &mut [u8]) -> usize
+    requires { ⌜ at + length (decimal number) ≤ length (now out) ⌝ }
+    ensures { λ r. ⌜ TextAt r at (decimal number) (now (out .entry)) (now (out .exit)) ⌝ }
+{
+    if number < 10 {
+        return put(b'0' + number as u8, at, out);
+    }
+    let last = put_decimal(number / 10, at, out);
+    put(b'0' + (number % 10) as u8, last, out)
+}
+
+// A space and a number.
+fn put_field(number: u64, at: usize, out: &mut [u8]) -> usize
+    requires { ⌜ at + length (32 ∷ decimal number) ≤ length (now out) ⌝ }
+    ensures { λ r. ⌜ TextAt r at (32 ∷ decimal number) (now (out .entry)) (now (out .exit)) ⌝ }
+{
+    let next = put(b' ', at, out);
+    put_decimal(number, next, out)
+}
+
+fn put_word(digits: usize, shown: Outputs, at: usize, out: &mut [u8]) -> usize
+    requires { ⌜ at + length (wordText digits shown) ≤ length (now out) ⌝ }
+    ensures { λ r. ⌜ TextAt r at (wordText digits shown) (now (out .entry)) (now (out .exit)) ⌝ }
+{
+    if shown.verdict == 7 {
+        return put(b'-', at, out);
+    }
+    if shown.verdict == 8 {
+        return put(b'-', at, out);
+    }
+    write_hex(digits, shown.word as u64, &mut out[at..]);
+    at + digits
+}
+
+// Verdict, corrected flag and word.
+fn put_fate(digits: usize, shown: Outputs, at: usize, out: &mut [u8]) -> usize
+    requires { ⌜ at + length (fateText digits shown) ≤ length (now out) ⌝ }
+    ensures { λ r. ⌜ TextAt r at (fateText digits shown) (now (out .entry)) (now (out .exit)) ⌝ }
+{
+    let verdict = put_decimal(shown.verdict as u64, at, out);
+    let flag = put_field(shown.corrected as u64, verdict, out);
+    let space = put(b' ', flag, out);
+    put_word(digits, shown, space, out)
+}
+
+fn put_refusal(refusal: u8, at: usize, out: &mut [u8]) -> usize
+    requires { ⌜ at + length (refusalText refusal) ≤ length (now out) ⌝ }
+    ensures { λ r. ⌜ TextAt r at (refusalText refusal) (now (out .entry)) (now (out .exit)) ⌝ }
+{
+    let mark = put(b'!', at, out);
+    put_field(refusal as u64, mark, out)
+}
+
+fn put_answer(digits: usize, answer: ClockAnswer, at: usize, out: &mut [u8]) -> usize
+    requires { ⌜ at + length (answerText digits answer) ≤ length (now out) ⌝ }
+    ensures { λ r. ⌜ TextAt r at (answerText digits answer) (now (out .entry)) (now (out .exit)) ⌝ }
+{
+    if answer.refusal == 0 {
+        return put_fate(digits, answer.outputs, at, out);
+    }
+    put_refusal(answer.refusal, at, out)
+}
+
+// The report of a line.
+pub(crate) fn put_line(number: u64, digits: usize, answer: ClockAnswer, at: usize, out: &mut [u8]) -> usize
+    requires { ⌜ at + length (lineText number digits answer) ≤ length (now out) ⌝ }
+    ensures { λ r. ⌜ TextAt r at (lineText number digits answer) (now (out .entry)) (now (out .exit)) ⌝ }
+{
+    let name = put_decimal(number, at, out);
+    let space = put(b' ', name, out);
+    let told = put_answer(digits, answer, space, out);
+    put(b'\n', told, out)
+}
+
+// The four counts of the end.
+fn put_counts(core: Core, at: usize, out: &mut [u8]) -> usize
+    requires { ⌜ at + length (countsText core) ≤ length (now out) ⌝ }
+    ensures { λ r. ⌜ TextAt r at (countsText core) (now (out .entry)) (now (out .exit)) ⌝ }
+{
+    let single = put_field(core.errors.single as u64, at, out);
+    let double = put_field(core.errors.double as u64, single, out);
+    let event = put_field(core.counters.event as u64, double, out);
+    put_field(core.counters.bunch as u64, event, out)
+}
+
+// The line at the end.
+pub(crate) fn put_end(core: Core, at: usize, out: &mut [u8]) -> usize
+    requires { ⌜ at + length (endText core) ≤ length (now out) ⌝ }
+    ensures { λ r. ⌜ TextAt r at (endText core) (now (out .entry)) (now (out .exit)) ⌝ }
+{
+    let e = put(b'e', at, out);
+    let n = put(b'n', e, out);
+    let d = put(b'd', n, out);
+    let counts = put_counts(core, d, out);
+    put(b'\n', counts, out)
+}
