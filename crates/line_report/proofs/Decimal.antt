@@ -5,10 +5,10 @@ use mathlib.Core.List.{List, [], _∷_, _++_}
 use Prim.Native.Nat.{ℕ, zero, suc, _+_, _*_, _/_, _%_, _^_, _≤_, _<_}
 use native.Mathlib.Nat.{pow-suc}
 use native.Mathlib.Omega.{arith}
-use borrow.Author.Tests.{lt-ltb, le-ltb}
+use borrow.Author.Tests.{lt-ltb, le-ltb, ltb-true, ltb-false}
 use lib.Dec.{ltb}
 use lib.ListN.{length, length-append}
-use Rattle.laws.proofs.Rules.{picked}
+use Rattle.laws.proofs.Rules.{picked, by-test}
 use Rattle.stored_line.specs.Digits.{digitCharacter}
 use Rattle.line_report.specs.Text.{decimalUpTo, decimal}
 use Rattle.line_report.specs.Write.{TextAt}
@@ -47,7 +47,8 @@ pub more-digits : (number : ℕ) → 10 ≤ number → number < 2 ^ 64 → decim
 unfolding decimal
 more-digits number h below = large 18 number h (omega arith)
 
--- a number below 10^k has at most k digits
+-- ---- how many there are
+
 at-most : (more number : ℕ) → length (decimalUpTo more number) ≤ suc more
 unfolding decimalUpTo
 at-most zero number = omega arith
@@ -56,6 +57,21 @@ at-most (suc more) number =
     (let rest = at-most more (number / 10) in
     let all = length-append (decimalUpTo more (number / 10)) (digitCharacter (number % 10) ∷ []) in
     omega arith)
+
+pub twenty-digits : (number : ℕ) → length (decimal number) ≤ 20
+unfolding decimal
+twenty-digits number = at-most 19 number
+
+-- a number below 10^k has at most k digits
+pub few-digits : (k number : ℕ) → number < 10 ^ suc k → number < 2 ^ 64 → length (decimal number) ≤ suc k
+few-digits zero number h below = omega (arith, ap length (one-digit number h))
+few-digits (suc k) number h below =
+    by-test (ltb number 10)
+    (λ t. omega (arith, ap length (one-digit number (ltb-true _ _ t))))
+    (λ t.
+    let large : 10 ≤ number = ltb-false _ _ t in
+    let rest = few-digits k (number / 10) (let top = pow-suc 10 (suc k) in omega arith) (omega arith) in
+    omega (arith, ap length (more-digits number large below), length-append (decimal (number / 10)) ((48 + number % 10) ∷ [])))
 
 -- ---- digits stored one behind the other
 

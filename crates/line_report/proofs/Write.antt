@@ -2,14 +2,14 @@
 use mathlib.Core.Path.{_≡_, refl, sym, ap, _∙_}
 use mathlib.Core.List.{List, [], _∷_, _++_}
 use Prim.Native.Nat.{ℕ, suc, _+_, _≤_, _<_}
-use native.Mathlib.Nat.{add-zero, add-suc, suc-add}
+use native.Mathlib.Nat.{add-zero, zero-add, add-suc, suc-add}
 use native.Mathlib.Omega.{arith}
-use lib.ListN.{length, length-append}
-use lib.Seq.{sets, length-sets}
+use lib.ListN.{length, drop, length-append}
+use lib.Seq.{sets, length-sets, sets-eq}
 use Rattle.line_report.specs.Write.{TextAt}
 
 -- stored together or one behind the other
-sets-append : (first second before : List ℕ) (at : ℕ) → sets before at (first ++ second) ≡ sets (sets before at first) (at + length first) second
+pub sets-append : (first second before : List ℕ) (at : ℕ) → sets before at (first ++ second) ≡ sets (sets before at first) (at + length first) second
 sets-append [] second before at = ap (λ (n : ℕ). sets before n second) (sym (add-zero at))
 sets-append (c ∷ first) second before at =
     sets-append first second _ (suc at)
@@ -44,3 +44,8 @@ room-then {at} {n} first second h t = omega (arith, length-append first second, 
 -- room for some characters is room for the first
 pub room-one : (at character : ℕ) (rest : List ℕ) {room : ℕ} → at + length (character ∷ rest) ≤ room → at < room
 room-one at character rest h = omega arith
+
+-- a text stored at the front, and the bytes beyond it
+pub stored-front : (text buffer : List ℕ) → length text ≤ length buffer → sets buffer 0 text ≡ text ++ drop (length text) buffer
+stored-front text buffer h =
+    sets-eq text buffer 0 (omega arith) ∙ ap (λ (n : ℕ). text ++ drop n buffer) (zero-add (length text))

@@ -2,4 +2,5 @@ pub mod Text
 pub mod Write
 pub mod Output
 pub mod Report
+pub mod Turn
 pub mod Cuts

@@ -12,7 +12,7 @@ use Rattle.receiver.specs.WholeFrame.{receiveAnswer}
 use Rattle.stored_line.specs.declared.StoredLine.{StoredLine}
 use Rattle.stored_line.specs.declared.StoredLine.the-variants.{Frame, Refused}
 use Rattle.stored_line.specs.Read.{readLine}
-use Rattle.line_report.specs.Text.{wordDigits, lineText, endText}
+use Rattle.line_report.specs.Text.{wordDigits, lineText, coreEndText}
 
 -- ---- lines
 
@@ -48,7 +48,7 @@ linePrints columns r lines line = lineText (nextLine lines) (wordDigits line) (l
 
 -- lines on a receiver that has taken so many lines, and the end
 unfoldable pub linesPrint : (Kind → List ℕ) → Receiver → ℕ → List (List ℕ) → List ℕ
-linesPrint columns r lines [] = endText (r .core)
+linesPrint columns r lines [] = coreEndText (r .core)
 linesPrint columns r lines (characters ∷ rest) =
     linePrints columns r lines (readLine characters)
     ++ linesPrint columns (lineAnswer columns r (readLine characters) .receiver) (nextLine lines) rest

@@ -3,7 +3,7 @@
 use Prim.Native.Nat.{ℕ, suc, _+_, _-_}
 use mathlib.Core.Bool.{cond}
 use mathlib.Core.List.{List, [], _∷_, _++_}
-use lib.Dec.{eqb, ltb, leb}
+use lib.Dec.{eqb, ltb}
 use lib.ListN.{length, take, drop, set}
 use Rattle.frame.specs.declared.Kind.{Kind}
 use Rattle.receiver_state.specs.declared.Receiver.{Receiver}
@@ -14,7 +14,7 @@ use Rattle.stored_line.specs.Read.{readLine}
 use Rattle.line_report.specs.declared.LinePart.{LinePart}
 use Rattle.line_report.specs.declared.Report.{Report}
 use Rattle.line_report.specs.declared.Reported.{Reported}
-use Rattle.line_report.specs.Text.{endText}
+use Rattle.line_report.specs.Text.{coreEndText}
 use Rattle.line_report.specs.Output.{ownReceiver, lineAnswer, nextLine, linePrints}
 
 -- ---- the line so far
@@ -37,9 +37,13 @@ unfoldable pub withCharacter : LinePart → ℕ → LinePart
 withCharacter part character =
     cond (ltb (part .count) 11) (linePart (part .count + 1) (set (part .characters) (part .count) character)) longPart
 
+unfoldable pub withCharacters : LinePart → List ℕ → LinePart
+withCharacters part [] = part
+withCharacters part (character ∷ characters) = withCharacters (withCharacter part character) characters
+
 -- the line, if it ends here
 unfoldable pub readPart : LinePart → StoredLine
-readPart part = cond (leb (part .count) 11) (readLine (take (part .count) (part .characters))) (Refused 10)
+readPart part = cond (ltb 11 (part .count)) (Refused 10) (readLine (take (part .count) (part .characters)))
 
 -- ---- a byte of input
 
@@ -75,6 +79,11 @@ module _ (columns : Kind → List ℕ) where
   unfoldable pub bytesPrint : Report → List ℕ → List ℕ
   bytesPrint now [] = []
   bytesPrint now (byte ∷ bytes) = bytePrints now byte ++ bytesPrint (afterByte now byte) bytes
+
+-- how many bytes come before the first line feed, all of them if there is none
+unfoldable pub untilFeed : List ℕ → ℕ
+untilFeed [] = 0
+untilFeed (byte ∷ bytes) = cond (eqb byte 10) 0 (suc (untilFeed bytes))
 
 -- ---- a piece of the input, and a buffer
 
@@ -136,7 +145,7 @@ module _ (columns : Kind → List ℕ) where
   lastPrints now = cond (eqb (now .part .count) 0) [] (lineEndPrints columns now (readPart (now .part)))
 
   abbrev pub endPrints : Report → List ℕ
-  endPrints now = lastPrints now ++ endText (afterLast now .receiver .core)
+  endPrints now = lastPrints now ++ coreEndText (afterLast now .receiver .core)
 
   -- a smaller buffer writes nothing, and the report stays
   unfoldable pub endWork : ℕ → Report → Work

@@ -4,6 +4,7 @@ use Prim.Native.Nat.{ℕ, zero, suc, _/_, _%_}
 use mathlib.Core.Bool.{cond}
 use mathlib.Core.List.{List, [], _∷_, _++_}
 use lib.Dec.{eqb, ltb}
+use Rattle.frame.specs.declared.Kind.{Kind}
 use Rattle.frame.specs.declared.Kind.the-variants.{Short, Long}
 use Rattle.receiver_state.specs.declared.Core.{Core}
 use Rattle.fate.specs.declared.Outputs.{Outputs}
@@ -22,10 +23,13 @@ decimalUpTo (suc more) number =
 unfoldable pub decimal : ℕ → List ℕ
 decimal number = decimalUpTo 19 number
 
--- "2 or 8 capital digits", by the kind of frame
+-- "2 or 8 capital digits"
+abbrev pub kindDigits : Kind → ℕ
+kindDigits Short = 2
+kindDigits Long = 8
+
 abbrev pub wordDigits : StoredLine → ℕ
-wordDigits (Frame Short number) = 2
-wordDigits (Frame Long number) = 8
+wordDigits (Frame kind number) = kindDigits kind
 wordDigits (Refused refusal) = 0
 
 -- "word (2 or 8 capital digits, `-` for 7 and 8)"
@@ -51,13 +55,12 @@ unfoldable pub lineText : ℕ → ℕ → ClockAnswer → List ℕ
 lineText number digits answer = decimal number ++ (32 ∷ (answerText digits answer ++ (10 ∷ [])))
 
 -- "single errors, double errors, event count, bunch count, in decimal"
-unfoldable pub countsText : Core → List ℕ
-countsText core =
-    (32 ∷ decimal (core .errors .single))
-    ++ ((32 ∷ decimal (core .errors .double))
-    ++ ((32 ∷ decimal (core .counters .event))
-    ++ (32 ∷ decimal (core .counters .bunch))))
+unfoldable pub countsText : ℕ → ℕ → ℕ → ℕ → List ℕ
+countsText single double event bunch = (32 ∷ decimal single) ++ ((32 ∷ decimal double) ++ ((32 ∷ decimal event) ++ (32 ∷ decimal bunch)))
 
 -- "Last: `end`", the counts, and a line feed
-unfoldable pub endText : Core → List ℕ
-endText core = 101 ∷ 110 ∷ 100 ∷ (countsText core ++ (10 ∷ []))
+unfoldable pub endText : ℕ → ℕ → ℕ → ℕ → List ℕ
+endText single double event bunch = 101 ∷ 110 ∷ 100 ∷ (countsText single double event bunch ++ (10 ∷ []))
+
+abbrev pub coreEndText : Core → List ℕ
+coreEndText core = endText (core .errors .single) (core .errors .double) (core .counters .event) (core .counters .bunch)

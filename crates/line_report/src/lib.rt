@@ -7,14 +7,26 @@ ghost use mathlib.Core.Path.{_≡_};
 ghost use Prim.Native.Nat.{_+_, _≤_, _<_};
 ghost use lib.ListN.{length};
 ghost use Rattle.fate.specs.Fate.{columnsOf};
+ghost use Rattle.line_report.specs.Text.{kindDigits, wordDigits};
 ghost use Rattle.line_report.specs.Output.{lineAnswer};
-ghost use Rattle.line_report.specs.Report.{emptyPart, startReport, filled, reportInput, reportEnd};
+ghost use Rattle.line_report.specs.Write.{TextAt};
+ghost use Rattle.line_report.specs.Turn.{Turned};
+ghost use Rattle.line_report.specs.Report.{startReport, untilFeed, lineEnded, lineEndPrints, longestLine, afterLast, lastPrints, filled, reportInput, reportEnd};
+use frame::Kind;
+use part::empty_part;
+use part::read_behind;
+use part::read_part;
+use part::with_characters;
 use receiver::ClockAnswer;
 use receiver::receive_frame;
+use receiver::refuse_clock;
 use receiver_state::Receiver;
 use receiver_state::fresh;
 use stored_line::StoredLine;
+use text::put_end;
+use text::put_line;
 
+mod part;
 mod text;
 
 // The characters of a line so far, as far as they matter.
@@ -40,14 +52,16 @@ pub struct Reported {
     pub written: usize,
 }
 
-fn empty_part() -> LinePart
-    ensures { λ r. ⌜ r ≡ emptyPart ⌝ }
-{
-    LinePart {
-        count: 0,
-        characters: [0; 11],
-    }
+// What a line's end leaves: the report, and the place behind its text in the buffer.
+struct Ended {
+    report: Report,
+    next: usize,
 }
+
+// The longest text of a line, and of the end with a last line before it.
+const LONGEST_LINE: usize = 34;
+
+const LONGEST_END: usize = 65;
 
 // A report at the beginning of its input.
 pub fn start_report() -> Report
@@ -60,5 +74,163 @@ pub fn start_report() -> Report
         receiver,
         lines: 0,
         part,
+    }
+}
+
+// How many bytes come before the first line feed.
+fn until_feed(bytes: &[u8]) -> usize
+    ensures { λ r. ⌜ r ≡ untilFeed (now (bytes .entry)) ⌝ }
+{
+    let mut at = 0;
+    while at < bytes.len() {
+        if bytes[at] == b'\n' {
+            return at;
+        }
+        at += 1;
+    }
+    at
+}
+
+// How many digits the word of a line's frame has.
+fn word_digits(line: StoredLine) -> usize
+    ensures { λ r. ⌜ r ≡ wordDigits line ⌝ }
+{
+    match line {
+        StoredLine::Frame { kind, number } => kind_digits(kind),
+        StoredLine::Refused { refusal } => 0,
+    }
+}
+
+fn kind_digits(kind: Kind) -> usize
+    ensures { λ r. ⌜ r ≡ kindDigits kind ⌝ }
+{
+    match kind {
+        Kind::Short => 2,
+        Kind::Long => 8,
+    }
+}
+
+// A line's bits go through the receiver; a refused line has none.
+fn line_answer(receiver: Receiver, line: StoredLine) -> ClockAnswer
+    ensures { λ r. ⌜ r ≡ lineAnswer columnsOf receiver line ⌝ }
+{
+    match line {
+        StoredLine::Frame { kind, number } => receive_frame(receiver, kind, number),
+        StoredLine::Refused { refusal } => refuse_clock(refusal, receiver),
+    }
+}
+
+// A line ends: its bits go through the receiver, and its text is written.
+fn end_line(report: Report, line: StoredLine, at: usize, out: &mut [u8]) -> Ended
+    requires { ⌜ at + length (lineEndPrints columnsOf report line) ≤ length (now out) ⌝ }
+    ensures { λ r. ⌜ (r .report ≡ lineEnded columnsOf report line) × (TextAt (r .next) at (lineEndPrints columnsOf report line) (now (out .entry)) (now (out .exit))) ⌝ }
+{
+    let answer = line_answer(report.receiver, line);
+    let lines = std::num::wrapping_add_u64(report.lines, 1);
+    let next = put_line(lines, word_digits(line), answer, at, out);
+    let receiver = answer.receiver;
+    let part = empty_part();
+    let ended = Report {
+        receiver,
+        lines,
+        part,
+    };
+    Ended {
+        report: ended,
+        next,
+    }
+}
+
+// A last line that has no line feed, unless it is empty.
+fn end_last(report: Report, out: &mut [u8]) -> Ended
+    requires { ⌜ longestLine ≤ length (now out) ⌝ }
+    ensures { λ r. ⌜ (r .report ≡ afterLast columnsOf report) × (TextAt (r .next) 0 (lastPrints columnsOf report) (now (out .entry)) (now (out .exit))) ⌝ }
+{
+    let part = report.part;
+    if part.count == 0 {
+        return Ended { report, next: 0 };
+    }
+    end_line(report, read_part(part), 0, out)
+}
+
+// Works on to the next line feed, or to the end of the input. There is room for a line's text.
+fn report_line(before: Reported, input: &[u8], out: &mut [u8]) -> Reported
+    requires { ⌜ (before .used < length (now input)) × (before .written + longestLine ≤ length (now out)) ⌝ }
+    ensures { λ r. ⌜ Turned columnsOf before r (now (input .entry)) (now (out .entry)) (now (out .exit)) ⌝ }
+{
+    let from = before.used;
+    let rest = &input[from..];
+    let until = until_feed(rest);
+    let part = before.report.part;
+    if until == rest.len() {
+        let part = with_characters(part, rest);
+        let mut report = before.report;
+        report.part = part;
+        return Reported {
+            report,
+            used: input.len(),
+            written: before.written,
+        };
+    }
+    let characters = part.characters;
+    let line = read_behind(part.count, characters, &rest[..until]);
+    let ended = end_line(before.report, line, before.written, out);
+    let report = ended.report;
+    Reported {
+        report,
+        used: from + until + 1,
+        written: ended.next,
+    }
+}
+
+// Reports the lines that end in a piece of the input, until it is used up or the buffer could not
+// hold another line's text.
+pub fn report_input(report: Report, input: &[u8], out: &mut [u8]) -> Reported
+    ensures { λ r. ⌜ filled r (now (out .exit)) ≡ reportInput columnsOf report (now (input .entry)) (now (out .entry)) ⌝ }
+    ensures { λ r. ⌜ (r .used ≤ length (now (input .entry))) × (r .written ≤ length (now (out .entry))) ⌝ }
+{
+    let mut done = Reported {
+        report,
+        used: 0,
+        written: 0,
+    };
+    loop {
+        if input.len() <= done.used {
+            return done;
+        }
+        if out.len() - done.written < LONGEST_LINE {
+            return done;
+        }
+        done = report_line(done, input, out);
+    }
+}
+
+// The end of input: a last line that has no line feed, and the line of the counts.
+pub fn report_end(report: Report, out: &mut [u8]) -> Reported
+    ensures { λ r. ⌜ filled r (now (out .exit)) ≡ reportEnd columnsOf report (now (out .entry)) ⌝ }
+    ensures { λ r. ⌜ r .written ≤ length (now (out .entry)) ⌝ }
+{
+    if out.len() < LONGEST_END {
+        return Reported {
+            report,
+            used: 0,
+            written: 0,
+        };
+    }
+    let last = end_last(report, out);
+    let ended = last.report;
+    let core = ended.receiver.core;
+    let written = put_end(
+        core.errors.single,
+        core.errors.double,
+        core.counters.event,
+        core.counters.bunch,
+        last.next,
+        out,
+    );
+    Reported {
+        report: ended,
+        used: 0,
+        written,
     }
 }

@@ -8,7 +8,6 @@ ghost use Rattle.line_report.specs.Text.{decimal, wordText, fateText, re
 ghost use Rattle.line_report.specs.Write.{TextAt};
 use fate::Outputs;
 use receiver::ClockAnswer;
-use receiver_state::Core;
 use stored_line::write_hex;
 
 fn put(character: u8, at: usize, out: &mut [u8]) -> usize
@@ -83,7 +82,13 @@ fn put_answer(digits: usize, answer: ClockAnswer, at: usize, out: &mut [u8]) -> 
 }
 
 // The report of a line.
-pub(crate) fn put_line(number: u64, digits: usize, answer: ClockAnswer, at: usize, out: &mut [u8]) -> usize
+pub(crate) fn put_line(
+    number: u64,
+    digits: usize,
+    answer: ClockAnswer,
+    at: usize,
+    out: &mut [u8],
+) -> usize
     requires { ⌜ at + length (lineText number digits answer) ≤ length (now out) ⌝ }
     ensures { λ r. ⌜ TextAt r at (lineText number digits answer) (now (out .entry)) (now (out .exit)) ⌝ }
 {
@@ -94,24 +99,31 @@ pub(crate) fn put_line(number: u64, digits: usize, answer: ClockAnswer, at: usiz
 }
 
 // The four counts of the end.
-fn put_counts(core: Core, at: usize, out: &mut [u8]) -> usize
-    requires { ⌜ at + length (countsText core) ≤ length (now out) ⌝ }
-    ensures { λ r. ⌜ TextAt r at (countsText core) (now (out .entry)) (now (out .exit)) ⌝ }
+fn put_counts(single: u16, double: u8, event: u32, bunch: u16, at: usize, out: &mut [u8]) -> usize
+    requires { ⌜ at + length (countsText single double event bunch) ≤ length (now out) ⌝ }
+    ensures { λ r. ⌜ TextAt r at (countsText single double event bunch) (now (out .entry)) (now (out .exit)) ⌝ }
 {
-    let single = put_field(core.errors.single as u64, at, out);
-    let double = put_field(core.errors.double as u64, single, out);
-    let event = put_field(core.counters.event as u64, double, out);
-    put_field(core.counters.bunch as u64, event, out)
+    let singles = put_field(single as u64, at, out);
+    let doubles = put_field(double as u64, singles, out);
+    let events = put_field(event as u64, doubles, out);
+    put_field(bunch as u64, events, out)
 }
 
-// The line at the end.
-pub(crate) fn put_end(core: Core, at: usize, out: &mut [u8]) -> usize
-    requires { ⌜ at + length (endText core) ≤ length (now out) ⌝ }
-    ensures { λ r. ⌜ TextAt r at (endText core) (now (out .entry)) (now (out .exit)) ⌝ }
+// The line at the end. Its numbers have at most 5, 3, 10 and 5 digits.
+pub(crate) fn put_end(
+    single: u16,
+    double: u8,
+    event: u32,
+    bunch: u16,
+    at: usize,
+    out: &mut [u8],
+) -> usize
+    requires { ⌜ at + 31 ≤ length (now out) ⌝ }
+    ensures { λ r. ⌜ (TextAt r at (endText single double event bunch) (now (out .entry)) (now (out .exit))) × (r ≤ at + 31) ⌝ }
 {
     let e = put(b'e', at, out);
     let n = put(b'n', e, out);
     let d = put(b'd', n, out);
-    let counts = put_counts(core, d, out);
+    let counts = put_counts(single, double, event, bunch, d, out);
     put(b'\n', counts, out)
 }

@@ -46,7 +46,7 @@ pub struct Bus {
 }
 
 // A refused clock: the state as it came, and every output 0.
-fn refuse_clock(refusal: u8, receiver: Receiver) -> ClockAnswer
+pub fn refuse_clock(refusal: u8, receiver: Receiver) -> ClockAnswer
     ensures { λ r. ⌜ r ≡ refusedClock refusal receiver ⌝ }
 {
     ClockAnswer {

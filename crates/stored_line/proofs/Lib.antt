@@ -1,2 +1,3 @@
 pub mod Digits
 pub mod ReadWritten
+pub mod Refusals

@@ -1,0 +1,189 @@
+-- How long a line's text can be. Assumes nothing.
+use mathlib.Core.Path.{_≡_, refl, sym, ap, _∙_}
+use mathlib.Core.Bool.{cond}
+use mathlib.Core.List.{List, [], _∷_, _++_}
+use Prim.Native.Nat.{ℕ, zero, suc, _+_, _/_, _%_, _^_, _≤_, _<_}
+use native.Mathlib.Nat.{pow-suc}
+use native.Mathlib.Omega.{arith}
+use borrow.Author.Tests.{ltb-true, ltb-false}
+use lib.Dec.{eqb, ltb, lit<}
+use lib.ListN.{length, take, length-append}
+use Rattle.laws.proofs.Rules.{picked, by-test}
+use Rattle.frame.specs.declared.Kind.{Kind}
+use Rattle.frame.specs.declared.Kind.the-variants.{Short, Long}
+use Rattle.frame.specs.declared.Answer.{Answer}
+use Rattle.frame.specs.declared.Judged.{Judged}
+use Rattle.frame.specs.declared.Judged.the-variants.{StopZero, Uncorrectable, FixedZero, Good}
+use Rattle.frame.specs.Numbers.{frameBits, isFrame}
+use Rattle.frame.specs.Decode.{judged, answerTo}
+use Rattle.receiver_state.specs.declared.Receiver.{Receiver}
+use Rattle.receiver_state.specs.declared.Core.{Core}
+use Rattle.receiver_state.specs.WellFormed.{wellFormed}
+use Rattle.fate.specs.declared.Outputs.{Outputs}
+use Rattle.fate.specs.declared.Clocked.{Clocked}
+use Rattle.fate.specs.declared.Row.{Row}
+use Rattle.fate.specs.Fate.{isShort, foreign, countErrors, finishedAnswer, fate, finished}
+use Rattle.receiver.specs.declared.ClockAnswer.{ClockAnswer}
+use Rattle.receiver.specs.declared.Taken.{Taken}
+use Rattle.receiver.specs.declared.Taken.the-variants.{Unfinished, Finished}
+use Rattle.receiver.specs.TakeBit.{takeBit}
+use Rattle.receiver.specs.IdleClock.{idleClock}
+use Rattle.receiver.specs.Clock.{applyFrame, stepAnswer, refusedClock, clockAnswer}
+use Rattle.receiver.specs.WholeFrame.{bitsOf, clocksAnswer, noClock, receiveAnswer}
+use Rattle.stored_line.specs.declared.StoredLine.{StoredLine}
+use Rattle.stored_line.specs.declared.StoredLine.the-variants.{Frame, Refused}
+use Rattle.stored_line.specs.Digits.{hexDigits}
+use Rattle.stored_line.specs.Read.{readLine}
+use Rattle.stored_line.proofs.Digits.{length-digits}
+use Rattle.stored_line.proofs.Refusals.{RefusalSmall, refusal-small}
+use Rattle.line_report.specs.declared.LinePart.{LinePart}
+use Rattle.line_report.specs.Text.{decimal, kindDigits, wordDigits, wordText, fateText, refusalText, answerText, lineText, countsText, endText}
+use Rattle.line_report.specs.Output.{lineAnswer, nextLine, linePrints}
+use Rattle.line_report.specs.declared.Report.{Report}
+use Rattle.line_report.specs.Write.{TextAt}
+use Rattle.line_report.specs.Report.{readPart, longestLine, lastPrints}
+use Rattle.line_report.proofs.Decimal.{one-digit, few-digits, twenty-digits}
+
+-- ---- verdict and flag have one digit, a refusal at most three
+
+record Shown (shown : Outputs) : Type 0 where
+  verdict-below : shown .verdict < 10
+  flag-below : shown .corrected < 10
+
+record Small (answer : ClockAnswer) : Type 0 where
+  refusal-below : answer .refusal < 1000
+  outputs-small : Shown (answer .outputs)
+
+flag-small : (kind : Kind) (judged : Judged) → answerTo kind judged .corrected < 10
+flag-small kind StopZero = lit< tt
+flag-small kind Uncorrectable = lit< tt
+flag-small kind (FixedZero word) = lit< tt
+flag-small kind (Good word flag wrong) = picked (λ (n : ℕ). n < 10) flag (lit< tt) (lit< tt)
+
+abbrev VerdictBelow : Row → Type 0
+VerdictBelow row = row .verdict < 10
+
+row-small : (kind : Kind) (frame : Answer) (core : Core) → VerdictBelow (fate kind frame core)
+unfolding fate
+row-small kind frame core =
+    picked VerdictBelow (eqb (frame .verdict) 7) (lit< tt)
+    (picked VerdictBelow (eqb (frame .verdict) 8) (lit< tt)
+    (picked VerdictBelow (eqb (frame .verdict) 9) (lit< tt)
+    (picked VerdictBelow (isShort kind) (lit< tt)
+    (picked VerdictBelow (foreign (frame .fields .address) (core .ids .id)) (lit< tt)
+    (picked VerdictBelow (eqb (frame .fields .e) 1) (lit< tt)
+    (picked VerdictBelow (ltb (frame .fields .sub) 4) (lit< tt)
+    (picked VerdictBelow (eqb (frame .fields .sub) 6) (lit< tt) (lit< tt))))))))
+
+applied-small : (columns : Kind → List ℕ) (taken : Taken) (core : Core) (trigger : ℕ) → Shown (applyFrame columns taken (idleClock core trigger) .outputs)
+unfolding finished finishedAnswer idleClock
+applied-small columns (Unfinished held) core trigger = record { verdict-below = lit< tt; flag-below = lit< tt }
+applied-small columns (Finished kind number) core trigger =
+    record {
+      verdict-below = row-small kind (finishedAnswer columns kind number) (countErrors (finishedAnswer columns kind number) (idleClock core trigger .core));
+      flag-below = flag-small kind (judged (columns kind) kind number);
+    }
+
+refused-small : (refusal : ℕ) (r : Receiver) → refusal < 1000 → Small (refusedClock refusal r)
+refused-small refusal r h = record { refusal-below = h; outputs-small = record { verdict-below = lit< tt; flag-below = lit< tt } }
+
+clock-small : (columns : Kind → List ℕ) (r : Receiver) (trigger bit : ℕ) → Small (clockAnswer columns r trigger bit)
+unfolding clockAnswer stepAnswer
+clock-small columns r trigger bit =
+    picked Small (wellFormed r)
+    (picked Small (ltb 1 trigger) (refused-small 1 r (lit< tt))
+    (picked Small (ltb 1 bit) (refused-small 1 r (lit< tt))
+    (record { refusal-below = lit< tt; outputs-small = applied-small columns (takeBit (r .held) bit) (r .core) trigger })))
+    (refused-small 2 r (lit< tt))
+
+clocks-small : (columns : Kind → List ℕ) (before : ClockAnswer) (bits : List ℕ) → Small before → Small (clocksAnswer columns before bits)
+unfolding clocksAnswer
+clocks-small columns before [] s = s
+clocks-small columns before (bit ∷ bits) s =
+    clocks-small columns (clockAnswer columns (before .receiver) 0 bit) bits (clock-small columns (before .receiver) 0 bit)
+
+line-small : (columns : Kind → List ℕ) (r : Receiver) (line : StoredLine) → RefusalSmall line → Small (lineAnswer columns r line)
+unfolding receiveAnswer
+line-small columns r (Frame kind number) s =
+    picked Small (wellFormed r)
+    (picked Small (isFrame kind number) (clocks-small columns (noClock r) (bitsOf (frameBits kind) number) (refused-small 0 r (lit< tt))) (refused-small 12 r (lit< tt)))
+    (refused-small 2 r (lit< tt))
+line-small columns r (Refused refusal) s = refused-small refusal r (omega arith)
+
+pub part-small : (part : LinePart) → RefusalSmall (readPart part)
+unfolding readPart
+part-small part = picked RefusalSmall (ltb 11 (part .count)) (lit< tt) (refusal-small (take (part .count) (part .characters)))
+
+-- ---- the text
+
+abbrev AtMost8 : List ℕ → Type 0
+AtMost8 text = length text ≤ 8
+
+word-length : (digits : ℕ) (shown : Outputs) → digits ≤ 8 → length (wordText digits shown) ≤ 8
+unfolding wordText
+word-length digits shown h =
+    picked AtMost8 (eqb (shown .verdict) 7) (omega arith)
+    (picked AtMost8 (eqb (shown .verdict) 8) (omega arith) (omega (arith, length-digits digits (shown .word))))
+
+fate-length : (digits : ℕ) (shown : Outputs) → digits ≤ 8 → Shown shown → length (fateText digits shown) ≤ 12
+unfolding fateText
+fate-length digits shown h s =
+    let verdict = ap length (one-digit (shown .verdict) (s .verdict-below)) in
+    let flag = ap length (one-digit (shown .corrected) (s .flag-below)) in
+    let behind = length-append (32 ∷ decimal (shown .corrected)) (32 ∷ wordText digits shown) in
+    let all = length-append (decimal (shown .verdict)) ((32 ∷ decimal (shown .corrected)) ++ (32 ∷ wordText digits shown)) in
+    omega (arith, word-length digits shown h)
+
+refusal-length : (refusal : ℕ) → refusal < 1000 → length (refusalText refusal) ≤ 12
+unfolding refusalText
+refusal-length refusal h = omega (arith, few-digits 2 refusal h (omega arith))
+
+answer-length : (digits : ℕ) (answer : ClockAnswer) → digits ≤ 8 → Small answer → length (answerText digits answer) ≤ 12
+unfolding answerText
+answer-length digits answer h s =
+    picked (λ (text : List ℕ). length text ≤ 12) (eqb (answer .refusal) 0) (fate-length digits (answer .outputs) h (s .outputs-small))
+    (refusal-length (answer .refusal) (s .refusal-below))
+
+digits-small : (line : StoredLine) → wordDigits line ≤ 8
+digits-small (Frame Short number) = omega arith
+digits-small (Frame Long number) = omega arith
+digits-small (Refused refusal) = omega arith
+
+pub line-length : (columns : Kind → List ℕ) (r : Receiver) (lines : ℕ) (line : StoredLine) → RefusalSmall line → length (linePrints columns r lines line) ≤ longestLine
+unfolding lineText
+line-length columns r lines line s =
+    let answer = lineAnswer columns r line in
+    let told = answer-length (wordDigits line) answer (digits-small line) (line-small columns r line s) in
+    let behind = length-append (answerText (wordDigits line) answer) (10 ∷ []) in
+    let all = length-append (decimal (nextLine lines)) (32 ∷ (answerText (wordDigits line) answer ++ (10 ∷ []))) in
+    omega (arith, twenty-digits (nextLine lines))
+
+-- ---- the end
+
+end-length : (single double event bunch : ℕ) → single < 2 ^ 16 → double < 2 ^ 8 → event < 2 ^ 32 → bunch < 2 ^ 16
+    → length (endText single double event bunch) ≤ 31
+unfolding endText countsText
+end-length single double event bunch s d e b =
+    let singles = few-digits 4 single (omega arith) (omega arith) in
+    let doubles = few-digits 2 double (omega arith) (omega arith) in
+    let events = few-digits 9 event (omega arith) (omega arith) in
+    let bunches = few-digits 4 bunch (omega arith) (omega arith) in
+    let two = length-append (32 ∷ decimal event) (32 ∷ decimal bunch) in
+    let three = length-append (32 ∷ decimal double) ((32 ∷ decimal event) ++ (32 ∷ decimal bunch)) in
+    let four = length-append (32 ∷ decimal single) ((32 ∷ decimal double) ++ ((32 ∷ decimal event) ++ (32 ∷ decimal bunch))) in
+    let all = length-append ((32 ∷ decimal single) ++ ((32 ∷ decimal double) ++ ((32 ∷ decimal event) ++ (32 ∷ decimal bunch)))) (10 ∷ []) in
+    omega arith
+
+pub end-room : (single double event bunch at : ℕ) {size : ℕ} → at + 31 ≤ size → single < 2 ^ 16 → double < 2 ^ 8 → event < 2 ^ 32 → bunch < 2 ^ 16
+    → at + length (endText single double event bunch) ≤ size
+end-room single double event bunch at h s d e b = omega (arith, end-length single double event bunch s d e b)
+
+pub end-below : (single double event bunch : ℕ) {at next : ℕ} {before after : List ℕ} → TextAt next at (endText single double event bunch) before after
+    → single < 2 ^ 16 → double < 2 ^ 8 → event < 2 ^ 32 → bunch < 2 ^ 16 → next ≤ at + 31
+end-below single double event bunch t s d e b = omega (arith, t .next-is, end-length single double event bunch s d e b)
+
+pub last-length : (columns : Kind → List ℕ) (now : Report) → length (lastPrints columns now) ≤ longestLine
+unfolding lastPrints
+last-length columns now =
+    picked (λ (text : List ℕ). length text ≤ longestLine) (eqb (now .part .count) 0) (omega arith)
+    (line-length columns (now .receiver) (now .lines) (readPart (now .part)) (part-small (now .part)))

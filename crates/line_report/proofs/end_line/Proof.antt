@@ -1,0 +1,45 @@
+-- `line_report::end_line` meets its contract: it is made of the definitions that the calls give. Assumes nothing.
+use mathlib.Core.Path.{refl}
+use mathlib.Core.Path.{_≡_, ap, ap₂, _∙_}
+use Prim.Native.Nat.{ℕ}
+use borrow.Author.Needs.{needs}
+use Rattle.line_report.proofs.end_line.Statement.{statement}
+use Rattle.line_report.proofs.end_line.Tie as tie
+
+line-answer-requires : tie.Need-line-answer-requires
+line-answer-requires c κs = search needs
+
+wrapping-add-u64-requires : tie.Need-wrapping-add-u64-requires
+wrapping-add-u64-requires c κs = search needs
+
+word-digits-requires : tie.Need-word-digits-requires
+word-digits-requires c κs = search needs
+
+put-line-requires : tie.Need-put-line-requires
+put-line-requires c κs = rw (c .before .word-digits .ensures, c .before .before .wrapping-add-u64 .ensures, c .before .before .before .line-answer .ensures) (c .before .before .before .before .before .pre)
+
+empty-part-requires : tie.Need-empty-part-requires
+empty-part-requires c κs = search needs
+
+same-length : tie.Need-same-length
+same-length c = search needs
+
+returns : tie.Need-returns
+returns c =
+    let put = c .before .before .before .before in
+    let digits = put .before .before .word-digits .ensures in
+    let lines = put .before .before .before .wrapping-add-u64 .ensures in
+    let answer = put .before .before .before .before .line-answer .ensures in
+    (rw (lines, answer, c .empty-part .ensures) refl, rw (digits, lines, answer) at (put .put-line .ensures))
+
+pub end-line-spec : {M : Type 1} → statement M
+end-line-spec =
+    tie.close
+    (tie.spec
+    line-answer-requires
+    wrapping-add-u64-requires
+    word-digits-requires
+    put-line-requires
+    empty-part-requires
+    same-length
+    returns)

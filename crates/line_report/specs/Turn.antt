@@ -1,0 +1,28 @@
+-- One turn over a piece of input, to the next line feed or to the end: what was done, and what is left to be done behind it.
+use Prim.Native.Nat.{ℕ, _+_, _-_, _≤_, _<_}
+use mathlib.Core.Path.{_≡_}
+use mathlib.Core.List.{List}
+use lib.ListN.{length, drop}
+use lib.Seq.{sets}
+use Rattle.frame.specs.declared.Kind.{Kind}
+use Rattle.line_report.specs.declared.Reported.{Reported}
+use Rattle.line_report.specs.Report.{Work, workOn, Filled, filled}
+
+-- work behind so much input that was used and so much text that was written
+abbrev pub placed : ℕ → ℕ → List ℕ → Work → Filled
+placed used written buffer rest =
+    filled
+    (record { report = rest .report; used = used + rest .used; written = written + length (rest .text) })
+    (sets buffer written (rest .text))
+
+-- what comes of it if the rest of the input is worked on
+abbrev pub finishedFrom : (Kind → List ℕ) → Reported → List ℕ → List ℕ → Filled
+finishedFrom columns done input buffer =
+    placed (done .used) (done .written) buffer (workOn columns (length buffer - done .written) (done .report) (drop (done .used) input))
+
+-- some input was used, and what comes of it all stays the same
+pub record Turned (columns : Kind → List ℕ) (before after : Reported) (input buffer₀ buffer₁ : List ℕ) : Type 0 where
+  pub same : finishedFrom columns after input buffer₁ ≡ finishedFrom columns before input buffer₀
+  pub onward : before .used < after .used
+  pub within : after .used ≤ length input
+  pub fits : after .written ≤ length buffer₁
