@@ -10,6 +10,10 @@ pub mod ffi;
 pub mod model;
 pub mod random;
 pub mod receiver;
+#[cfg(feature = "reports")]
+pub mod reports;
 pub mod states;
+pub mod stored_lines;
 pub mod traffic;
+pub mod ttclines;
 pub mod ttcrx;

@@ -4,8 +4,11 @@ use mathlib.Core.Bool.{cond}
 use mathlib.Core.List.{List, [], _∷_, _++_}
 use Rattle.frame.specs.declared.Kind.{Kind}
 use Rattle.frame.specs.Numbers.{frameBits, isFrame}
+use Rattle.receiver_state.specs.declared.Core.{Core}
 use Rattle.receiver_state.specs.declared.Receiver.{Receiver}
+use Rattle.receiver_state.specs.State.{counters, noSequence, withCounters, withSequence}
 use Rattle.receiver_state.specs.WellFormed.{wellFormed}
+use Rattle.fate.specs.declared.Clocked.{Clocked}
 use Rattle.receiver.specs.declared.ClockAnswer.{ClockAnswer}
 use Rattle.receiver.specs.Clock.{noOutputs, refusedClock, clockAnswer}
 
@@ -31,3 +34,9 @@ receiveAnswer columns r kind number =
     (cond (isFrame kind number) (clocksAnswer columns (noClock r) (bitsOf (frameBits kind) number))
     (refusedClock 12 r))
     (refusedClock 2 r)
+
+-- three or more clocks without triggers that finish no frame: the bunch counter is at this number, and no sequence is left. The code uses it for the
+-- clocks of a whole frame on a receiver that waits.
+abbrev pub stillClocked : ℕ → Core → Clocked
+stillClocked bunch core =
+    record { core = withSequence noSequence (withCounters (counters bunch (core .counters .event)) core); outputs = noOutputs }

@@ -2,12 +2,13 @@
 //
 // The state goes by value, in and out: see `receiver_state`.
 ghost use mathlib.Core.Path.{_≡_};
-ghost use Prim.Native.Nat.{_<_, _≤_, _/_, _%_, _^_};
-ghost use Rattle.receiver_state.specs.WellFormed.{ReceiverFacts};
-ghost use Rattle.frame.specs.Numbers.{frameBits};
+ghost use mathlib.Core.Bool.{true};
+ghost use Prim.Native.Nat.{_+_, _<_, _≤_, _/_, _%_, _^_};
+ghost use Rattle.receiver_state.specs.WellFormed.{CountersFacts, ReceiverFacts};
+ghost use Rattle.frame.specs.Numbers.{frameBits, isFrame};
 ghost use Rattle.fate.specs.Fate.{columnsOf};
 ghost use Rattle.receiver.specs.Clock.{applyFrame, stepAnswer, refusedClock, clockAnswer};
-ghost use Rattle.receiver.specs.WholeFrame.{bitsOf, clocksAnswer, noClock, receiveAnswer};
+ghost use Rattle.receiver.specs.WholeFrame.{bitsOf, clocksAnswer, noClock, receiveAnswer, stillClocked};
 use channel_b::held_after;
 use channel_b::take_bit;
 use fate::Clocked;
@@ -16,6 +17,8 @@ use fate::finish;
 use frame::Kind;
 use frame::is_frame;
 use idle::idle_clock;
+use receiver_state::Core;
+use receiver_state::Counters;
 use receiver_state::Held;
 use receiver_state::Receiver;
 use receiver_state::Sequence;
@@ -142,6 +145,52 @@ fn receive_bits(receiver: Receiver, count: u8, number: u64) -> ClockAnswer
     answer
 }
 
+// What a frame's clocks leave and show before it acts, if nothing else goes on.
+fn still_clocks(core: Core, clocks: u8) -> Clocked
+    requires { ⌜ CountersFacts (core .counters) ⌝ }
+    ensures { λ r. ⌜ r ≡ stillClocked ((core .counters .bunch + clocks) % 4096) core ⌝ }
+{
+    let counters = Counters {
+        bunch: (core.counters.bunch + clocks as u16) % 0x1000,
+        event: core.counters.event,
+    };
+    let sequence = Sequence { left: 0, event: 0 };
+    let mut next = core;
+    next.counters = counters;
+    next.sequence = sequence;
+    Clocked {
+        core: next,
+        outputs: Outputs {
+            trigger: 0,
+            missed: 0,
+            strobe: 0,
+            number: 0,
+            verdict: 0,
+            corrected: 0,
+            word: 0,
+        },
+    }
+}
+
+// A whole frame on a receiver that waits: its clocks but the last only count, so they are done at
+// once.
+fn receive_waiting(receiver: Receiver, kind: Kind, number: u64) -> ClockAnswer
+    requires { ⌜ (ReceiverFacts receiver) × (receiver .held .count ≡ 0) × (isFrame kind number ≡ true) ⌝ }
+    ensures { λ r. ⌜ r ≡ clocksAnswer columnsOf (noClock receiver) (bitsOf (frameBits kind) number) ⌝ }
+{
+    let idle = still_clocks(receiver.core, frame_bits(kind));
+    let clocked = finish(kind, number, idle);
+    let core = clocked.core;
+    let outputs = clocked.outputs;
+    let held = Held { count: 0, bits: 0 };
+    let next = Receiver { core, held };
+    ClockAnswer {
+        refusal: 0,
+        receiver: next,
+        outputs,
+    }
+}
+
 // A whole frame, one bit a clock, without triggers: the answer of its last clock. The state is
 // checked once.
 pub fn receive_frame(receiver: Receiver, kind: Kind, number: u64) -> ClockAnswer
@@ -152,6 +201,9 @@ pub fn receive_frame(receiver: Receiver, kind: Kind, number: u64) -> ClockAnswer
     }
     if !is_frame(kind, number) {
         return refuse_clock(12, receiver);
+    }
+    if receiver.held.count == 0 {
+        return receive_waiting(receiver, kind, number);
     }
     receive_bits(receiver, frame_bits(kind), number)
 }

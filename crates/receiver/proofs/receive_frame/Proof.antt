@@ -2,14 +2,14 @@
 use mathlib.Core.Path.{ap, _∙_}
 use Prim.Native.Nat.{ℕ, _≤_}
 use native.Mathlib.Omega.{arith}
+use Rattle.laws.proofs.Rules.{granted, pick-yes, picks}
 use Rattle.frame.specs.declared.Kind.{Kind}
 use Rattle.frame.specs.declared.Kind.the-variants.{Short, Long}
 use Rattle.frame.specs.Numbers.{frameBits, isFrame}
-use Rattle.laws.proofs.Rules.{granted, pick-yes, picks}
-use Rattle.fate.specs.Fate.{columnsOf}
-use Rattle.receiver.specs.WholeFrame.{bitsOf, clocksAnswer, noClock, receiveAnswer}
 use Rattle.receiver_state.specs.WellFormed.{wellFormed}
 use Rattle.receiver_state.proofs.WellFormed.{receiver-facts}
+use Rattle.fate.specs.Fate.{columnsOf}
+use Rattle.receiver.specs.WholeFrame.{bitsOf, clocksAnswer, noClock, receiveAnswer}
 use borrow.Author.Needs.{needs}
 use Rattle.receiver.proofs.receive_frame.Statement.{statement}
 use Rattle.receiver.proofs.receive_frame.Tie as tie
@@ -38,17 +38,27 @@ returns-2 : tie.Need-returns-2
 unfolding receiveAnswer
 returns-2 c = search picks
 
-frame-bits-requires : tie.Need-frame-bits-requires
-frame-bits-requires c κs = search needs
-
-receive-bits-requires : tie.Need-receive-bits-requires
-receive-bits-requires c κs = (receiver-facts _ (search granted), rw (c .frame-bits .ensures) (few (c .before .before .before .before .before .args .kind)))
+receive-waiting-requires : tie.Need-receive-waiting-requires
+receive-waiting-requires c κs =
+    (receiver-facts _ (granted _ _ (c .before .before .before .before .before .well-formed .ensures) (c .before .before .before .before .if1 .left)), c .if3 .taken, granted _ _ (c .before .before .before .is-frame .ensures) (c .before .before .if2 .left))
 
 returns-3 : tie.Need-returns-3
 unfolding receiveAnswer
 returns-3 c =
-    let given = c .before .before .before .before .before .before .args in
-    pick-yes (wellFormed (given .receiver)) _ _ _ (search granted) (pick-yes (isFrame (given .kind) (given .number)) _ _ _ (search granted)
+    let given = c .before .before .before .before .before .before .before .args in
+    pick-yes (wellFormed (given .receiver)) _ _ _ (granted _ _ (c .before .before .before .before .before .before .well-formed .ensures) (c .before .before .before .before .before .if1 .left)) (pick-yes (isFrame (given .kind) (given .number)) _ _ _ (granted _ _ (c .before .before .before .before .is-frame .ensures) (c .before .before .before .if2 .left)) (c .receive-waiting .ensures))
+
+frame-bits-requires : tie.Need-frame-bits-requires
+frame-bits-requires c κs = search needs
+
+receive-bits-requires : tie.Need-receive-bits-requires
+receive-bits-requires c κs = (receiver-facts _ (granted _ _ (c .before .before .before .before .before .before .well-formed .ensures) (c .before .before .before .before .before .if1 .left)), rw (c .frame-bits .ensures) (few (c .before .before .before .before .before .before .before .args .kind)))
+
+returns-4 : tie.Need-returns-4
+unfolding receiveAnswer
+returns-4 c =
+    let given = c .before .before .before .before .before .before .before .before .args in
+    pick-yes (wellFormed (given .receiver)) _ _ _ (granted _ _ (c .before .before .before .before .before .before .before .well-formed .ensures) (c .before .before .before .before .before .before .if1 .left)) (pick-yes (isFrame (given .kind) (given .number)) _ _ _ (granted _ _ (c .before .before .before .before .before .is-frame .ensures) (c .before .before .before .before .if2 .left))
     (c .receive-bits .ensures
     ∙ ap (λ (n : ℕ). clocksAnswer columnsOf (noClock (given .receiver)) (bitsOf n (given .number))) (c .before .frame-bits .ensures)))
 
@@ -62,6 +72,8 @@ receive-frame-spec =
     is-frame-requires
     refuse-clock-requires-2
     returns-2
+    receive-waiting-requires
+    returns-3
     frame-bits-requires
     receive-bits-requires
-    returns-3)
+    returns-4)

@@ -1,0 +1,69 @@
+//! Random inputs and random reports.
+
+use ttcrx_host::ffi::Held;
+use ttcrx_host::random::Random;
+use ttcrx_host::reports::ffi::{LinePart, Report};
+use ttcrx_host::states;
+use ttcrx_host::stored_lines::{lines, EVERY_KIND};
+
+/// Up to so many random lines, often without the last line feed. None is longer than a few dozen
+/// bytes.
+pub fn input(random: &mut Random, count: u64) -> Vec<u8> {
+    let count = random.below(count + 1) as usize;
+    let mut input = lines(random, &EVERY_KIND, count);
+    if input.len() > 40 * count {
+        input = b"2097\n11111111111111111111111111111\n004E\n".to_vec();
+    }
+    let cut = random.below(13) as usize;
+    input.truncate(input.len().saturating_sub(cut));
+    input
+}
+
+/// The front of a line: any characters but the line feed, often those of a frame.
+fn part(random: &mut Random) -> LinePart {
+    let count = random.below(13) as u8;
+    let mut part = LinePart {
+        count,
+        ..LinePart::default()
+    };
+    if count < 12 {
+        let front = &mut part.characters[..usize::from(count)];
+        match random.once_in(3) {
+            true => front.fill_with(|| random.byte().max(b'\n' + 1)),
+            false => front.fill(b'1'),
+        }
+    }
+    part
+}
+
+/// Line numbers of every length, often the last before they go on from 0.
+fn line_count(random: &mut Random) -> u64 {
+    let near = random.below(4);
+    match random.once_in(3) {
+        true => u64::MAX - near,
+        false => random.any_length(),
+    }
+}
+
+/// A report whose receiver waits, in any other respect well formed.
+pub fn report(random: &mut Random) -> Report {
+    let mut receiver = states::well_formed(random);
+    receiver.held = Held::default();
+    Report {
+        receiver,
+        lines: line_count(random),
+        part: part(random),
+    }
+}
+
+/// A report whose receiver is of any kind, mostly not well formed.
+pub fn any_report(random: &mut Random) -> Report {
+    let garbage = states::garbage(random);
+    let good = states::well_formed(random);
+    let mut report = report(random);
+    report.receiver = match random.once_in(2) {
+        true => garbage,
+        false => states::mixed(random, good, &garbage),
+    };
+    report
+}

@@ -1,0 +1,147 @@
+//! An input in pieces, from its beginning: the bytes written in all are the whole output of the
+//! program, and what a report keeps does not depend on the cuts.
+
+use crate::driver::{Driver, LINE};
+use crate::inputs::input;
+use ttcrx_host::cases::Cases;
+use ttcrx_host::random::Random;
+use ttcrx_host::reports::ffi::Report;
+use ttcrx_host::reports::ttcrx::report_start;
+use ttcrx_host::stored_lines::{lines, EVERY_KIND, MOSTLY_CLEAN};
+use ttcrx_host::ttclines;
+
+/// More room than any input of these tests asks for at once.
+const AMPLE: usize = 40_000;
+
+/// Lengths of buffers that take a line, near the least one and others.
+const LENGTHS: [usize; 9] = [34, 35, 36, 64, 65, 66, 100, 4_096, AMPLE];
+
+/// Reports the pieces, with buffers of these lengths in turn, and the end. Gives what the report
+/// kept before the end.
+#[track_caller]
+fn reported(cases: &mut Cases, pieces: &[&[u8]], lengths: &[usize]) -> Report {
+    let whole = ttclines::whole_output(&pieces.concat());
+    let mut driver = Driver::of(cases, whole.len() as u64, report_start());
+    for (piece, length) in pieces.iter().zip(lengths.iter().cycle()) {
+        driver.piece(piece, *length);
+    }
+    let kept = driver.report;
+    driver.end(65);
+    let output = String::from_utf8_lossy(&driver.output).into_owned();
+    let expected = String::from_utf8_lossy(&whole);
+    cases.same(pieces, output.as_str(), &expected);
+    kept
+}
+
+#[test]
+fn every_cut() {
+    let mut cases = Cases::of("inputs cut in two everywhere");
+    let mut random = Random::new(310);
+    for _ in 0..150 {
+        let input = input(&mut random, 25);
+        let lengths = [random.pick(&LENGTHS), random.pick(&LENGTHS)];
+        let whole = reported(&mut cases, &[&input], &[AMPLE]);
+        for cut in 0..=input.len() {
+            let (front, back) = input.split_at(cut);
+            let kept = reported(&mut cases, &[front, back], &lengths);
+            cases.same((&input, cut), kept, whole);
+        }
+    }
+    cases.at_least(100_000);
+}
+
+#[test]
+fn every_two_cuts() {
+    let mut cases = Cases::of("inputs cut in three everywhere");
+    let input = b"004F\n100150235AD\n\n1111\r\n11111111111111\n180150235AD\n3F";
+    let whole = reported(&mut cases, &[input], &[AMPLE]);
+    for first in 0..=input.len() {
+        for second in first..=input.len() {
+            let (front, back) = input.split_at(second);
+            let (front, middle) = front.split_at(first);
+            let kept = reported(&mut cases, &[front, middle, back], &[LINE, 65, AMPLE]);
+            cases.same((first, second), kept, whole);
+        }
+    }
+    cases.at_least(10_000);
+}
+
+/// Cuts the input into pieces; many of them are empty or of one byte.
+fn cut<'a>(random: &mut Random, input: &'a [u8]) -> Vec<&'a [u8]> {
+    let most = random.pick(&[1, 2, 6, 30, 400]);
+    let mut pieces = Vec::new();
+    let mut rest = input;
+    while !rest.is_empty() {
+        let length = random.below(most + 1) as usize;
+        let (piece, behind) = rest.split_at(length.min(rest.len()));
+        pieces.push(piece);
+        rest = behind;
+    }
+    pieces
+}
+
+#[test]
+fn random_cuts() {
+    let mut cases = Cases::of("inputs cut into many pieces");
+    let mut random = Random::new(311);
+    for _ in 0..1_500 {
+        let input = input(&mut random, 60);
+        let whole = reported(&mut cases, &[&input], &[AMPLE]);
+        let pieces = cut(&mut random, &input);
+        let lengths = [0; 5].map(|_| random.pick(&LENGTHS));
+        let kept = reported(&mut cases, &pieces, &lengths);
+        cases.same(&input, kept, whole);
+    }
+    cases.at_least(100_000);
+}
+
+/// Every single byte a piece, and every buffer length around the edges.
+#[test]
+fn single_bytes() {
+    let mut cases = Cases::of("inputs byte by byte");
+    let mut random = Random::new(312);
+    for length in (LINE..70).chain([100, 1_000]) {
+        let input = input(&mut random, 40);
+        let pieces: Vec<&[u8]> = input.chunks(1).collect();
+        let kept = reported(&mut cases, &pieces, &[length]);
+        let whole = reported(&mut cases, &[&input], &[length]);
+        cases.same(&input, kept, whole);
+    }
+    cases.at_least(20_000);
+}
+
+/// Many lines at once, in buffers of the program's size and of others.
+#[test]
+fn many_lines() {
+    let mut cases = Cases::of("20,000 lines in pieces of 4,096 bytes");
+    for (mix, length) in [
+        (&EVERY_KIND, 4_096),
+        (&MOSTLY_CLEAN, 65),
+        (&EVERY_KIND, LINE),
+    ] {
+        let input = lines(&mut Random::new(length as u64), mix, 20_000);
+        let pieces: Vec<&[u8]> = input.chunks(4_096).collect();
+        let kept = reported(&mut cases, &pieces, &[length]);
+        let whole = reported(&mut cases, &[&input], &[AMPLE]);
+        cases.same(length, kept, whole);
+    }
+    cases.at_least(10_000);
+}
+
+/// Lines longer than any piece: only their front is kept, then not even that.
+#[test]
+fn long_lines() {
+    let mut cases = Cases::of("long lines in pieces");
+    for length in [11, 12, 13, 255, 256, 259, 267, 4_096, 4_100, 65_536, 65_540] {
+        let line = vec![b'1'; length];
+        let input = [&line, &b"\n2097\n"[..], &line].concat();
+        for piece in [1, 7, 11, 12, 255, 256, 4_096, input.len()] {
+            if length / piece > 5_000 {
+                continue;
+            }
+            let pieces: Vec<&[u8]> = input.chunks(piece).collect();
+            reported(&mut cases, &pieces, &[LINE, 65]);
+        }
+    }
+    cases.at_least(5_000);
+}

@@ -1,0 +1,77 @@
+//! Inputs that can't be read and outputs that can't be written: the program ends.
+
+use crate::program::{self, Ended, Scratch};
+use std::fs::File;
+use std::process::{Command, Stdio};
+use ttcrx_host::random::Random;
+use ttcrx_host::stored_lines::{lines, EVERY_KIND};
+
+/// A directory can be opened but not read.
+#[test]
+fn a_directory_as_input() {
+    let directory = File::open(env!("CARGO_MANIFEST_DIR")).expect("the package's folder");
+    let ended = program::reading(directory);
+    let output = String::from_utf8_lossy(&ended.output);
+    assert!(!output.contains("end"), "it said: {output}");
+    assert!(!ended.errors.is_empty(), "nothing on standard error");
+    assert!(!ended.status.success(), "{}", ended.status);
+}
+
+/// Far more output than any buffer or pipe holds.
+fn input() -> Vec<u8> {
+    lines(&mut Random::new(221), &EVERY_KIND, 50_000)
+}
+
+/// Runs the program under a shell, which redirects before it becomes the program.
+fn redirected(redirection: &str, input: &[u8]) -> Ended {
+    let script = format!("exec \"$0\" {redirection}");
+    let mut command = Command::new("sh");
+    command
+        .args(["-c".as_ref(), script.as_ref(), program::path().as_os_str()])
+        .stdin(Scratch::holding(input).open())
+        .stdout(Stdio::piped())
+        .stderr(Stdio::piped());
+    program::run(&mut command, |_| {})
+}
+
+/// That it ends in time is tested by `program::run`.
+#[test]
+fn a_closed_output() {
+    for input in [b"".to_vec(), b"004F\n".to_vec(), input()] {
+        let ended = redirected(">&-", &input);
+        assert!(ended.output.is_empty());
+    }
+}
+
+#[test]
+fn a_full_output() {
+    for input in [b"".to_vec(), b"004F\n".to_vec(), input()] {
+        let ended = redirected(">/dev/full", &input);
+        assert!(ended.output.is_empty());
+    }
+}
+
+/// Both standard output and standard error can't be written.
+#[test]
+fn nowhere_to_write() {
+    for redirection in [">&- 2>&-", ">/dev/full 2>/dev/full", "<&- >&- 2>&-"] {
+        for input in [b"".to_vec(), input()] {
+            redirected(redirection, &input);
+        }
+    }
+}
+
+/// A pipe whose other end is closed: the rest of the input is not waited for.
+#[test]
+fn an_output_that_nobody_reads() {
+    for input in [b"".to_vec(), b"004F\n".to_vec(), input()] {
+        let mut command = Command::new(program::path());
+        let (reader, writer) = std::io::pipe().expect("a pipe");
+        command
+            .stdin(Scratch::holding(&input).open())
+            .stdout(writer)
+            .stderr(Stdio::piped());
+        drop(reader);
+        program::run(&mut command, |_| {});
+    }
+}

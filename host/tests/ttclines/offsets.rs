@@ -1,0 +1,124 @@
+//! Lines that begin and end at every offset around the multiples of 4,096, the size of the
+//! program's buffer. The input is a file, so that a read may fill the buffer.
+
+use crate::compare::{same, same_from_file};
+use crate::lengths::{Content, CONTENTS, GOOD, LENGTHS};
+use ttcrx_host::cases::Cases;
+use ttcrx_host::random::Random;
+
+const BUFFER: usize = 4_096;
+
+/// Of a line that the offset is given for.
+#[derive(Clone, Copy, Debug)]
+enum Edge {
+    FirstCharacter,
+    LineFeed,
+}
+
+/// Whole lines of so many bytes: good ones, and empty ones at the end.
+fn filler(bytes: usize) -> Vec<u8> {
+    let lines: Vec<&[u8]> = GOOD.split_inclusive(|byte| *byte == b'\n').collect();
+    let mut filler = Vec::with_capacity(bytes);
+    for line in lines.iter().cycle() {
+        if filler.len() + line.len() > bytes {
+            break;
+        }
+        filler.extend_from_slice(line);
+    }
+    filler.resize(bytes, b'\n');
+    filler
+}
+
+/// Fills the input up so that the edge of the line behind it lies at the offset from a multiple of
+/// 4,096, and puts the line there.
+fn place(input: &mut Vec<u8>, line: &[u8], edge: Edge, offset: isize) {
+    let before = match edge {
+        Edge::FirstCharacter => 0,
+        Edge::LineFeed => line.len(),
+    };
+    let buffer = BUFFER as isize;
+    let wanted = (offset - before as isize).rem_euclid(buffer);
+    let missing = (wanted - input.len() as isize).rem_euclid(buffer);
+    input.extend(filler(missing as usize));
+    input.extend_from_slice(line);
+    input.push(b'\n');
+}
+
+/// The offsets around a multiple: further than the longest good line reaches.
+const OFFSETS: std::ops::RangeInclusive<isize> = -14..=14;
+
+/// One line in the first buffer or across its end, alone in its input.
+#[test]
+fn at_the_end_of_the_first_buffer() {
+    let mut cases = Cases::of("lines around the end of the first buffer");
+    let mut random = Random::new(204);
+    for length in [0, 1, 3, 4, 5, 10, 11, 12, 13] {
+        for offset in OFFSETS {
+            let content = random.pick(&[Content::Ones, Content::Digits]);
+            let line = content.line(&mut random, length);
+            let mut input = filler(BUFFER - 64);
+            place(&mut input, &line, Edge::FirstCharacter, offset);
+            input.extend(GOOD);
+            let name = format!("{length} characters at 4096 + {offset}");
+            same_from_file(&mut cases, &name, &input);
+        }
+    }
+    cases.at_least(2 * 9 * 29);
+}
+
+/// The input ends around the end of the first and of the second buffer, with and without a last
+/// line feed.
+#[test]
+fn inputs_that_end_with_a_buffer() {
+    let mut cases = Cases::of("inputs that end around the end of a buffer");
+    for buffers in [1, 2] {
+        for offset in -13..=13 {
+            for line in [&b"2097"[..], b"100150235AD", b""] {
+                let bytes = (buffers * BUFFER as isize + offset) as usize;
+                let mut input = filler(bytes - line.len());
+                input.extend(line);
+                let name = format!("{bytes} bytes");
+                same_from_file(&mut cases, &name, &input);
+            }
+        }
+    }
+    cases.at_least(2 * 2 * 27 * 3);
+}
+
+/// Lines of every length of the list at every offset, in one input for each length.
+#[test]
+fn at_every_multiple() {
+    let mut cases = Cases::of("lines around multiples of 4,096");
+    let mut random = Random::new(205);
+    for length in LENGTHS {
+        let far = if length > 10_000 { 2 } else { 14 };
+        for content in CONTENTS {
+            let mut input = Vec::new();
+            for edge in [Edge::FirstCharacter, Edge::LineFeed] {
+                for offset in OFFSETS.filter(|offset| offset.abs() <= far) {
+                    let line = content.line(&mut random, length);
+                    place(&mut input, &line, edge, offset);
+                }
+            }
+            input.extend(GOOD);
+            let name = format!("{length} characters, {content:?}");
+            same_from_file(&mut cases, &name, &input);
+            same(&mut cases, &name, &input);
+        }
+    }
+    cases.at_least(4 * 18 * 4);
+}
+
+/// The edges lie where they are to.
+#[test]
+fn edges_are_placed() {
+    for (edge, before) in [(Edge::FirstCharacter, 0), (Edge::LineFeed, 11)] {
+        for offset in OFFSETS {
+            let mut input = filler(5_000);
+            place(&mut input, b"11111111111", edge, offset);
+            let at = (input.len() - 12 + before) as isize;
+            assert_eq!((at - offset) % BUFFER as isize, 0, "{edge:?} {offset}");
+            assert!(input.ends_with(b"\n11111111111\n"));
+        }
+    }
+}
