@@ -5,3 +5,4 @@ pub mod LineSoFar
 pub mod Bounds
 pub mod Work
 pub mod Turn
+pub mod Cuts

@@ -120,7 +120,7 @@ module _ (columns : Kind → List ℕ) where
 
   -- ---- what is written fits
 
-  byte-fits : (now : Report) (byte : ℕ) → length (bytePrints columns now byte) ≤ longestLine
+  pub byte-fits : (now : Report) (byte : ℕ) → length (bytePrints columns now byte) ≤ longestLine
   unfolding bytePrints
   byte-fits now byte =
       picked (λ (text : List ℕ). length text ≤ longestLine) (eqb byte 10)
