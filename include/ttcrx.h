@@ -1,11 +1,13 @@
 /*
- * The C interface of the TTCrx model, libttcrx.a: frames, stored lines, fine delays, and the
- * receiver, clock by clock, with register accesses between clocks.
+ * The C interface of the TTCrx model, libttcrx.a: frames, stored lines, fine delays, the receiver,
+ * clock by clock, with register accesses between clocks, or frame by frame; and reports of stored
+ * lines.
  *
  * Every function takes every value of its arguments. Each answer begins with the number of refusal
  * of document 01, the customer's scope paper: 0 is success; else every other field of the answer is
  * 0, but for a state that was given, which comes back as it was, and no byte of a lent buffer was
- * written. ttcrx_well_formed alone refuses nothing and answers a plain number.
+ * written. ttcrx_well_formed refuses nothing and answers a plain number, and the functions on reports
+ * refuse nothing and answer a report.
  *
  * A function that is lent characters or a buffer takes a pointer and a length in bytes. What the
  * caller must ensure: the pointer is valid for that length, for writing too where it is not const,
@@ -169,6 +171,26 @@ typedef struct ttcrx_write_answer {
     ttcrx_receiver receiver; /* the state after the write; with a refusal, the state as given */
 } ttcrx_write_answer;
 
+/* The characters of a line so far, as far as they matter. */
+typedef struct ttcrx_line_part {
+    uint8_t count;          /* how many they are; 12 for more than 11 */
+    uint8_t characters[11]; /* the characters; 0 beyond, and where there are more than 11 */
+} ttcrx_line_part;
+
+/* What a report of stored lines keeps between two pieces of input. */
+typedef struct ttcrx_report {
+    ttcrx_receiver receiver;
+    uint64_t lines; /* lines reported so far; past 2^64 - 1 it goes on from 0 */
+    ttcrx_line_part part;
+} ttcrx_report;
+
+/* The answer of a call on a report. */
+typedef struct ttcrx_reported {
+    ttcrx_report report;
+    size_t used;    /* bytes of the input used, from its front */
+    size_t written; /* bytes of the buffer written, from its front; those beyond stay */
+} ttcrx_reported;
+
 /* The short frame of a byte. Refuses nothing. */
 ttcrx_encoded ttcrx_encode_short(uint8_t data);
 
@@ -234,6 +256,39 @@ ttcrx_read_answer ttcrx_read(ttcrx_receiver receiver, uint8_t number);
  * 17, 18 or 22; 7: register 20 or 21, and a byte that differs from the fresh one in bits 6 to 0.
  */
 ttcrx_write_answer ttcrx_write(ttcrx_receiver receiver, uint8_t number, uint8_t value);
+
+/*
+ * Feeds a whole short frame to the receiver: its bits in the order sent, one a clock, without
+ * triggers. The answer is that of the last clock. Refusals, in this order: 2: a state that is not well
+ * formed; 12: a number that is no short frame, as for the decoder.
+ */
+ttcrx_clock_answer ttcrx_receive_short(ttcrx_receiver receiver, uint64_t number);
+
+/* The same for a long frame. */
+ttcrx_clock_answer ttcrx_receive_long(ttcrx_receiver receiver, uint64_t number);
+
+/*
+ * A report of stored lines at the beginning of its input: what the program ttclines does, with a
+ * fresh receiver of ID 5 and I2C ID 5. The three functions on reports refuse nothing.
+ */
+ttcrx_report ttcrx_report_start(void);
+
+/*
+ * Reports the lines that end in a piece of the input, each as ttclines prints it: the line's number,
+ * then verdict, corrected flag and word of its frame, or '!' and the refusal. It works until the
+ * piece is used up or fewer than 34 bytes of the buffer are free; so a buffer of under 34 bytes uses
+ * no input and writes nothing. A frame on a receiver that is not well formed is refused by 2. How
+ * the input is cut into pieces does not show in the text.
+ */
+ttcrx_reported ttcrx_report_input(ttcrx_report report, const uint8_t *input, size_t input_length,
+                                  uint8_t *buffer, size_t buffer_length);
+
+/*
+ * At the end of the input: reports a last line without line feed, if it has any character, and
+ * writes the line of the counts, "end ..". A buffer of under 65 bytes: nothing is written, and the
+ * report stays. Uses no input.
+ */
+ttcrx_reported ttcrx_report_end(ttcrx_report report, uint8_t *buffer, size_t buffer_length);
 
 #ifdef __cplusplus
 }

@@ -10,7 +10,6 @@ pub mod ffi;
 pub mod model;
 pub mod random;
 pub mod receiver;
-#[cfg(feature = "reports")]
 pub mod reports;
 pub mod states;
 pub mod stored_lines;

@@ -13,7 +13,9 @@ ghost use Rattle.receiver_state.specs.State.{freshAnswer};
 ghost use Rattle.receiver_state.specs.WellFormed.{wellFormed};
 ghost use Rattle.fate.specs.Fate.{columnsOf};
 ghost use Rattle.receiver.specs.Clock.{clockAnswer};
+ghost use Rattle.receiver.specs.WholeFrame.{receiveAnswer};
 ghost use Rattle.registers.specs.Access.{readAnswer, writeAnswer};
+ghost use Rattle.line_report.specs.Report.{startReport, filled, reportInput, reportEnd};
 use fine_delay::DelayByte;
 use fine_delay::DelaySetting;
 use fine_delay::delay_byte;
@@ -25,8 +27,14 @@ use frame::decode_long;
 use frame::decode_short;
 use frame::encode_long;
 use frame::encode_short;
+use line_report::Report;
+use line_report::Reported;
+use line_report::report_end;
+use line_report::report_input;
+use line_report::start_report;
 use receiver::ClockAnswer;
 use receiver::clock;
+use receiver::receive_frame;
 use receiver_state::FreshAnswer;
 use receiver_state::Receiver;
 use receiver_state::fresh;
@@ -140,4 +148,39 @@ pub extern "C" fn ttcrx_write(receiver: Receiver, number: u8, value: u8) -> Writ
     ensures { λ r. ⌜ r ≡ writeAnswer receiver number value ⌝ }
 {
     write(receiver, number, value)
+}
+
+#[no_mangle]
+pub extern "C" fn ttcrx_receive_short(receiver: Receiver, number: u64) -> ClockAnswer
+    ensures { λ r. ⌜ r ≡ receiveAnswer columnsOf receiver Short number ⌝ }
+{
+    receive_frame(receiver, Kind::Short, number)
+}
+
+#[no_mangle]
+pub extern "C" fn ttcrx_receive_long(receiver: Receiver, number: u64) -> ClockAnswer
+    ensures { λ r. ⌜ r ≡ receiveAnswer columnsOf receiver Long number ⌝ }
+{
+    receive_frame(receiver, Kind::Long, number)
+}
+
+#[no_mangle]
+pub extern "C" fn ttcrx_report_start() -> Report
+    ensures { λ r. ⌜ r ≡ startReport ⌝ }
+{
+    start_report()
+}
+
+#[no_mangle]
+pub extern "C" fn ttcrx_report_input(report: Report, input: &[u8], buffer: &mut [u8]) -> Reported
+    ensures { λ r. ⌜ filled r (now (buffer .exit)) ≡ reportInput columnsOf report (now (input .entry)) (now (buffer .entry)) ⌝ }
+{
+    report_input(report, input, buffer)
+}
+
+#[no_mangle]
+pub extern "C" fn ttcrx_report_end(report: Report, buffer: &mut [u8]) -> Reported
+    ensures { λ r. ⌜ filled r (now (buffer .exit)) ≡ reportEnd columnsOf report (now (buffer .entry)) ⌝ }
+{
+    report_end(report, buffer)
 }

@@ -3,7 +3,6 @@
 
 mod child;
 mod clocks;
-#[cfg(feature = "reports")]
 mod frames;
 mod input;
 mod machine;
@@ -46,7 +45,6 @@ fn bench() -> io::Result<()> {
     machine::print_head(&proved, &plain, &folder);
     programs::run(&proved, &plain, &folder)?;
     clocks::run();
-    #[cfg(feature = "reports")]
     frames::run();
     println!("Everywhere the results of both sides were equal.");
     Ok(())
