@@ -1,4 +1,5 @@
-// Document 01, "Fate of a finished frame" and "One clock": one clock of a receiver.
+// Document 01, "Fate of a finished frame" and "One clock": one clock of a receiver, and the clocks of
+// a whole frame.
 //
 // The state goes by value, in and out: see `receiver_state`.
 ghost use mathlib.Core.Path.{_≡_};
@@ -7,7 +8,7 @@ ghost use Prim.Native.Nat.{_+_, _<_, _≤_, _/_, _%_, _^_};
 ghost use Rattle.receiver_state.specs.WellFormed.{CountersFacts, ReceiverFacts};
 ghost use Rattle.frame.specs.Numbers.{frameBits, isFrame};
 ghost use Rattle.fate.specs.Fate.{columnsOf};
-ghost use Rattle.receiver.specs.Clock.{applyFrame, stepAnswer, refusedClock, clockAnswer};
+ghost use Rattle.receiver.specs.Clock.{noOutputs, applyFrame, stepAnswer, refusedClock, clockAnswer};
 ghost use Rattle.receiver.specs.WholeFrame.{bitsOf, clocksAnswer, noClock, receiveAnswer, stillClocked};
 use channel_b::held_after;
 use channel_b::take_bit;
@@ -48,22 +49,29 @@ pub struct Bus {
     pub missed: u8,
 }
 
+fn no_outputs() -> Outputs
+    ensures { λ r. ⌜ r ≡ noOutputs ⌝ }
+{
+    Outputs {
+        trigger: 0,
+        missed: 0,
+        strobe: 0,
+        number: 0,
+        verdict: 0,
+        corrected: 0,
+        word: 0,
+    }
+}
+
 // A refused clock: the state as it came, and every output 0.
 pub fn refuse_clock(refusal: u8, receiver: Receiver) -> ClockAnswer
     ensures { λ r. ⌜ r ≡ refusedClock refusal receiver ⌝ }
 {
+    let outputs = no_outputs();
     ClockAnswer {
         refusal,
         receiver,
-        outputs: Outputs {
-            trigger: 0,
-            missed: 0,
-            strobe: 0,
-            number: 0,
-            verdict: 0,
-            corrected: 0,
-            word: 0,
-        },
+        outputs,
     }
 }
 
@@ -158,17 +166,10 @@ fn still_clocks(core: Core, clocks: u8) -> Clocked
     let mut next = core;
     next.counters = counters;
     next.sequence = sequence;
+    let outputs = no_outputs();
     Clocked {
         core: next,
-        outputs: Outputs {
-            trigger: 0,
-            missed: 0,
-            strobe: 0,
-            number: 0,
-            verdict: 0,
-            corrected: 0,
-            word: 0,
-        },
+        outputs,
     }
 }
 
