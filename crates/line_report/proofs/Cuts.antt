@@ -20,7 +20,7 @@ use Rattle.line_report.specs.declared.Report.{Report}
 use Rattle.line_report.specs.Text.{coreEndText}
 use Rattle.line_report.specs.Output.{lastLine, linesAfter, lineAnswer, nextLine, linePrints, linesPrint, outputOf}
 use Rattle.line_report.specs.Report.{noCharacters, emptyPart, withCharacter, readPart, report, startReport, lineEnded, lineEndPrints, afterByte, bytePrints, afterBytes, bytesPrint, longestLine, Work, work, behind, workOn, filled, filledBy, reportInput, longestEnd, afterLast, lastPrints, endPrints, endWork, reportEnd}
-use Rattle.line_report.specs.Cuts.{Offer, writtenBy, offered, reportAll, GoodOffers, Cuts, CutsTheorem, ReportCuts}
+use Rattle.line_report.specs.Cuts.{Offer, writtenBy, offered, reportAll, GoodOffers, Cuts, CutsTheorem, ReportCuts, LongestReached}
 use Rattle.fate.specs.Fate.{columnsOf}
 use Rattle.line_report.proofs.LineSoFar.{Kept, Dropped, Holds, none-yet, holds-one, holds-read}
 use Rattle.line_report.proofs.Work.{no-room, byte-fits}
@@ -267,6 +267,7 @@ module _ (columns : Kind → List ℕ) where
 pub cuts-theorem : CutsTheorem
 cuts-theorem columns =
     record {
+      no-longer = byte-fits columns;
       small-buffer = λ now input buffer h. ap (λ (w : Work). filledBy w buffer) (no-room columns (length buffer) now input h);
       goes-on = λ now input buffer some h. uses-one columns (length buffer) now input some h;
       all-or-full = λ now input buffer. all-or-no-room columns (length buffer) now input;

@@ -6,3 +6,4 @@ pub mod Bounds
 pub mod Work
 pub mod Turn
 pub mod Cuts
+pub mod Longest

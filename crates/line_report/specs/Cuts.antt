@@ -1,5 +1,5 @@
 -- How an input is cut into pieces, and how large the buffers are, never shows in what is written. Proved in proofs/Cuts.antt.
-use Prim.Native.Nat.{ℕ, _+_, _*_, _≤_, _<_}
+use Prim.Native.Nat.{ℕ, _+_, _-_, _*_, _^_, _≤_, _<_}
 use mathlib.Core.Path.{_≡_}
 use mathlib.Core.Logic.{_⊎_}
 use mathlib.Core.List.{List, [], _∷_, _++_}
@@ -7,8 +7,8 @@ use lib.ListN.{length, take, drop}
 use Rattle.frame.specs.declared.Kind.{Kind}
 use Rattle.fate.specs.Fate.{columnsOf}
 use Rattle.line_report.specs.declared.Report.{Report}
-use Rattle.line_report.specs.Output.{outputOf}
-use Rattle.line_report.specs.Report.{startReport, afterBytes, bytesPrint, longestLine, Work, work, Filled, filled, reportInput, longestEnd, reportEnd}
+use Rattle.line_report.specs.Output.{ownReceiver, outputOf}
+use Rattle.line_report.specs.Report.{linePart, report, startReport, bytePrints, afterBytes, bytesPrint, longestLine, Work, work, Filled, filled, reportInput, longestEnd, reportEnd}
 
 -- ---- a list of calls
 
@@ -42,6 +42,8 @@ GoodOffers (offer ∷ offers) = ((1 ≤ offer .count) × (longestLine ≤ length
 -- ---- the statement
 
 pub record Cuts (columns : Kind → List ℕ) : Type 0 where
+  -- no line's text is longer than that
+  pub no-longer : (now : Report) (byte : ℕ) → length (bytePrints columns now byte) ≤ longestLine
   -- a buffer too small for a line's text: no input is used and nothing is written
   pub small-buffer : (now : Report) (input buffer : List ℕ) → length buffer < longestLine
       → reportInput columns now input buffer ≡ filled (record { report = now; used = 0; written = 0 }) buffer
@@ -72,3 +74,9 @@ CutsTheorem = (columns : Kind → List ℕ) → Cuts columns
 -- document 01's own columns, by which the functions work
 abbrev pub ReportCuts : Type 0
 ReportCuts = Cuts columnsOf
+
+-- and one is as long: line 18446744073709551615 with the frame 100150235AD, whose word has 8 digits
+abbrev pub LongestReached : Type 0
+LongestReached =
+    let part = linePart 11 (49 ∷ 48 ∷ 48 ∷ 49 ∷ 53 ∷ 48 ∷ 50 ∷ 51 ∷ 53 ∷ 65 ∷ 68 ∷ []) in
+    length (bytePrints columnsOf (report ownReceiver (2 ^ 64 - 2) part) 10) ≡ longestLine

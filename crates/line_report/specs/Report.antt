@@ -41,6 +41,11 @@ unfoldable pub withCharacters : LinePart → List ℕ → LinePart
 withCharacters part [] = part
 withCharacters part (character ∷ characters) = withCharacters (withCharacter part character) characters
 
+-- how many bytes come before the first line feed, all of them if there is none
+unfoldable pub untilFeed : List ℕ → ℕ
+untilFeed [] = 0
+untilFeed (byte ∷ bytes) = cond (eqb byte 10) 0 (suc (untilFeed bytes))
+
 -- the line, if it ends here
 unfoldable pub readPart : LinePart → StoredLine
 readPart part = cond (ltb 11 (part .count)) (Refused 10) (readLine (take (part .count) (part .characters)))
@@ -80,11 +85,6 @@ module _ (columns : Kind → List ℕ) where
   bytesPrint now [] = []
   bytesPrint now (byte ∷ bytes) = bytePrints now byte ++ bytesPrint (afterByte now byte) bytes
 
--- how many bytes come before the first line feed, all of them if there is none
-unfoldable pub untilFeed : List ℕ → ℕ
-untilFeed [] = 0
-untilFeed (byte ∷ bytes) = cond (eqb byte 10) 0 (suc (untilFeed bytes))
-
 -- ---- a piece of the input, and a buffer
 
 -- the longest text of a line: a line number of 20 digits, verdict, flag, a word of 8 digits, three spaces and the line feed
@@ -105,7 +105,7 @@ abbrev pub behind : List ℕ → Work → Work
 behind text rest = work (rest .report) (suc (rest .used)) (text ++ rest .text)
 
 module _ (columns : Kind → List ℕ) where
-  -- byte for byte, "until the chunk is used up or the buffer could not hold another line's report": `room` bytes of it are free
+  -- byte for byte, until the piece is used up or the buffer could not hold another line's text: `room` bytes of it are free
   unfoldable pub workOn : ℕ → Report → List ℕ → Work
   workOn room now [] = work now 0 []
   workOn room now (byte ∷ bytes) =
