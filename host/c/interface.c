@@ -1,8 +1,12 @@
 /*
  * The C interface used from C11 and from C++17: the layouts of ttcrx.h, and every function of the
- * archive called with the examples of document 01 and with refusals.
+ * archive called with the examples of document 01 and with refusals. Those on whole frames and on
+ * reports are called in reports.h.
  */
 #include "ttcrx.h"
+
+#include "checks.h"
+#include "reports.h"
 
 #include <assert.h>
 #include <stddef.h>
@@ -110,18 +114,19 @@ static_assert(sizeof(ttcrx_write_answer) == 56, "write");
 static_assert(offsetof(ttcrx_write_answer, refusal) == 0, "write.refusal");
 static_assert(offsetof(ttcrx_write_answer, receiver) == 8, "write.receiver");
 
-static unsigned passed = 0;
-static unsigned failed = 0;
+static_assert(sizeof(ttcrx_line_part) == 12, "line_part");
+static_assert(offsetof(ttcrx_line_part, count) == 0, "line_part.count");
+static_assert(offsetof(ttcrx_line_part, characters) == 1, "line_part.characters");
 
-static void check(int holds, const char *what)
-{
-    if (holds) {
-        passed++;
-    } else {
-        failed++;
-        printf("c interface: failed: %s\n", what);
-    }
-}
+static_assert(sizeof(ttcrx_report) == 72, "report");
+static_assert(offsetof(ttcrx_report, receiver) == 0, "report.receiver");
+static_assert(offsetof(ttcrx_report, lines) == 48, "report.lines");
+static_assert(offsetof(ttcrx_report, part) == 56, "report.part");
+
+static_assert(sizeof(ttcrx_reported) == 88, "reported");
+static_assert(offsetof(ttcrx_reported, report) == 0, "reported.report");
+static_assert(offsetof(ttcrx_reported, used) == 72, "reported.used");
+static_assert(offsetof(ttcrx_reported, written) == 80, "reported.written");
 
 static int encoded_is(ttcrx_encoded answer, uint8_t refusal, uint64_t number)
 {
@@ -164,22 +169,6 @@ static int written_is(ttcrx_written answer, uint8_t refusal, uint8_t length)
     return answer.refusal == refusal && answer.length == length;
 }
 
-static int core_is_fresh(ttcrx_core core, uint16_t id, uint8_t i2c)
-{
-    return core.ids.id == id && core.ids.i2c == i2c && core.settings.fine1 == 0 &&
-           core.settings.fine2 == 0 && core.settings.coarse == 0 &&
-           core.settings.control == 0x93 && core.settings.config2 == 0x85 &&
-           core.settings.config3 == 0xA7 && core.errors.single_errors == 0 &&
-           core.errors.double_errors == 0 && core.errors.status5 == 1 &&
-           core.counters.bunch == 0 && core.counters.event == 0 && core.sequence.left == 0 &&
-           core.sequence.event == 0;
-}
-
-static int held_is(ttcrx_held held, uint8_t count, uint64_t bits)
-{
-    return held.count == count && held.bits == bits;
-}
-
 /* Every field of the state is 0. */
 static int state_is_zero(ttcrx_receiver receiver)
 {
@@ -192,38 +181,6 @@ static int state_is_zero(ttcrx_receiver receiver)
            core.sequence.left == 0 && core.sequence.event == 0 && held_is(receiver.held, 0, 0);
 }
 
-static int counters_are(ttcrx_core core, uint16_t bunch, uint32_t event)
-{
-    return core.counters.bunch == bunch && core.counters.event == event;
-}
-
-static int bus_is(ttcrx_outputs outputs, uint8_t missed, uint8_t strobe, uint16_t number)
-{
-    return outputs.missed == missed && outputs.strobe == strobe && outputs.number == number;
-}
-
-static int fate_is(ttcrx_outputs outputs, uint8_t verdict, uint8_t corrected, uint32_t word)
-{
-    return outputs.verdict == verdict && outputs.corrected == corrected && outputs.word == word;
-}
-
-/* A state of IDs 5 that is fresh but for its status bit 5. */
-static int fresh_but_status(ttcrx_receiver receiver, uint8_t status5)
-{
-    ttcrx_core core = receiver.core;
-    const int status_kept = core.errors.status5 == status5;
-    core.errors.status5 = 1;
-    return status_kept && core_is_fresh(core, 5, 5) && held_is(receiver.held, 0, 0);
-}
-
-/* A refused clock of a state that is fresh but for its status bit 5. */
-static int clock_refused(ttcrx_clock_answer answer, uint8_t refusal, uint8_t status5)
-{
-    return answer.refusal == refusal && fresh_but_status(answer.receiver, status5) &&
-           answer.outputs.trigger == 0 && bus_is(answer.outputs, 0, 0, 0) &&
-           fate_is(answer.outputs, 0, 0, 0);
-}
-
 static int read_is(ttcrx_read_answer answer, uint8_t refusal, uint8_t byte)
 {
     return answer.refusal == refusal && answer.byte == byte;
@@ -233,19 +190,6 @@ static int read_is(ttcrx_read_answer answer, uint8_t refusal, uint8_t byte)
 static int write_leaves(ttcrx_write_answer answer, uint8_t refusal, uint8_t status5)
 {
     return answer.refusal == refusal && fresh_but_status(answer.receiver, status5);
-}
-
-/* The bits of a frame, without triggers. The outputs are those of the last bit. */
-static ttcrx_clock_answer send_frame(ttcrx_receiver receiver, unsigned length, uint64_t number)
-{
-    ttcrx_clock_answer answer;
-    memset(&answer, 0, sizeof answer);
-    answer.receiver = receiver;
-    while (length > 0) {
-        length--;
-        answer = ttcrx_clock(answer.receiver, 0, (uint8_t)(number >> length & 1));
-    }
-    return answer;
 }
 
 static void check_encoders(void)
@@ -564,6 +508,8 @@ int main(void)
     check_cleared_counters();
     check_write_within_a_frame();
     check_refused_accesses();
+    check_whole_frames();
+    check_reports();
     if (failed != 0) {
         return 1;
     }

@@ -101,7 +101,9 @@ fn frame(report: &mut Report, kind: Kind, number: u64) -> String {
     }
 }
 
-/// "Stored lines": verdict, corrected flag, "word (2 or 8 capital digits, `-` for 7 and 8)".
+/// "Stored lines": verdict, corrected flag, "word (2 or 8 capital digits, `-` for 7 and 8)". They
+/// are as many as for a frame of the line's own kind, and the low ones of the word: of a receiver
+/// that held bits the frame finished may be of the other kind. If none is, the word is 0.
 fn fate(kind: Kind, outputs: &Outputs) -> String {
     let Outputs {
         verdict,
@@ -111,7 +113,7 @@ fn fate(kind: Kind, outputs: &Outputs) -> String {
     } = outputs;
     let word = match (verdict, kind) {
         (7 | 8, _) => "-".to_string(),
-        (_, Kind::Short) => format!("{word:02X}"),
+        (_, Kind::Short) => format!("{:02X}", word & 0xFF),
         (_, Kind::Long) => format!("{word:08X}"),
     };
     format!("{verdict} {corrected} {word}")

@@ -1,26 +1,15 @@
 //! `ttcrx_report_end` with reports of every kind and buffers of every length.
 
 use crate::driver::Driver;
-use crate::inputs::{any_report, report};
+use crate::inputs::every_kind;
 use ttcrx_host::cases::Cases;
 use ttcrx_host::ffi::{Counters, Errors};
 use ttcrx_host::random::Random;
 use ttcrx_host::reports::ffi::{LinePart, Report};
 use ttcrx_host::reports::ttcrx::report_start;
-use ttcrx_host::ttcrx;
 
 /// The room that the last line and the line `end` ask for.
 const LINE_AND_END: usize = 65;
-
-/// A report whose text the header leaves no choice of: the receiver waits or is ill-formed.
-fn plain_report(random: &mut Random) -> Report {
-    let any = any_report(random);
-    let holds_bits = any.receiver.held.count != 0;
-    match holds_bits && ttcrx::well_formed(any.receiver) == 1 || random.once_in(2) {
-        true => report(random),
-        false => any,
-    }
-}
 
 #[test]
 fn every_length() {
@@ -28,7 +17,7 @@ fn every_length() {
     let mut random = Random::new(330);
     for length in (0..140).chain([1_000, 4_096]) {
         for call in 0..100 {
-            let report = plain_report(&mut random);
+            let report = every_kind(&mut random);
             let mut driver = Driver::of(&mut cases, call, report);
             let answer = driver.end(length);
             let nothing = (report, 0, 0);

@@ -56,6 +56,14 @@ pub fn report(random: &mut Random) -> Report {
     }
 }
 
+/// A report whose receiver is well formed, mostly within a frame.
+pub fn within_a_frame(random: &mut Random) -> Report {
+    Report {
+        receiver: states::well_formed(random),
+        ..report(random)
+    }
+}
+
 /// A report whose receiver is of any kind, mostly not well formed.
 pub fn any_report(random: &mut Random) -> Report {
     let garbage = states::garbage(random);
@@ -66,4 +74,13 @@ pub fn any_report(random: &mut Random) -> Report {
         false => states::mixed(random, good, &garbage),
     };
     report
+}
+
+/// A report of any of these kinds.
+pub fn every_kind(random: &mut Random) -> Report {
+    match random.below(4) {
+        0 => within_a_frame(random),
+        1 => any_report(random),
+        _ => report(random),
+    }
 }

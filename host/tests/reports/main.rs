@@ -3,6 +3,7 @@
 
 mod driver;
 mod ends;
+mod held_bits;
 mod inputs;
 mod pieces;
 mod receive;

@@ -1,14 +1,13 @@
 //! Single calls of `ttcrx_report_start` and `ttcrx_report_input` with reports of every kind.
 
 use crate::driver::{Driver, LINE};
-use crate::inputs::{any_report, input, report};
+use crate::inputs::{any_report, every_kind, input};
 use ttcrx_host::cases::Cases;
 use ttcrx_host::coverage::{assert_seen, Tally};
-use ttcrx_host::ffi::Receiver;
 use ttcrx_host::random::Random;
 use ttcrx_host::reports::ffi::{LinePart, Report};
 use ttcrx_host::reports::{answer, ttcrx as library};
-use ttcrx_host::{states, ttcrx};
+use ttcrx_host::ttcrx;
 
 #[test]
 fn the_start() {
@@ -35,13 +34,7 @@ fn reports_of_every_kind() {
     let mut seen = Tally::of([("well formed", 0, 1), ("input used up", 0, 1)]);
     for call in 0..60_000 {
         let input = input(&mut random, 12);
-        let report = match random.once_in(2) {
-            true => report(&mut random),
-            false => any_report(&mut random),
-        };
-        if holds_bits(&report.receiver) {
-            continue;
-        }
+        let report = every_kind(&mut random);
         let length = random.pick(&LENGTHS);
         let mut driver = Driver::of(&mut cases, call, report);
         let used = driver.input(&input, length);
@@ -50,11 +43,6 @@ fn reports_of_every_kind() {
     }
     assert_seen(&[&seen]);
     cases.at_least(200_000);
-}
-
-/// A well-formed receiver within a frame: see `receivers_within_a_frame`.
-fn holds_bits(receiver: &Receiver) -> bool {
-    receiver.held.count != 0 && ttcrx::well_formed(*receiver) == 1
 }
 
 /// An ill-formed receiver: a frame's line is reported as refusal 2, other lines by their refusals,
@@ -99,43 +87,6 @@ fn line_numbers_of_20_digits() {
     cases.same("text", said.as_str(), expected);
     cases.same("lines", lines, 1);
     cases.at_least(10);
-}
-
-/// The lines of a text, each without its word.
-fn without_words(text: &[u8]) -> Vec<String> {
-    let text = String::from_utf8_lossy(text);
-    let front = |line: &str| line.split(' ').take(3).collect::<Vec<_>>().join(" ");
-    text.lines().map(front).collect()
-}
-
-/// A well-formed receiver that holds bits gets the line's bits behind them. The frame that the last
-/// of them finishes, if any, need not be of the line's kind; how many digits its word then has is
-/// left open, so that it is not compared.
-#[test]
-fn receivers_within_a_frame() {
-    let mut cases = Cases::of("reports of receivers within a frame");
-    let mut random = Random::new(322);
-    let mut verdicts = Tally::of([("verdict", 0, 9)]);
-    for _ in 0..40_000 {
-        let input = input(&mut random, 4);
-        let mut report = report(&mut random);
-        report.receiver = states::well_formed(&mut random);
-        let mut buffers = [[0xA5; 300]; 2];
-        let answer = library::report_input(report, &input, &mut buffers[0]);
-        let expected = answer::input(report, &input, &mut buffers[1]);
-        let state = (answer.report, answer.used);
-        cases.same((report, &input), state, (expected.report, expected.used));
-        let said = without_words(&buffers[0][..answer.written]);
-        let model = without_words(&buffers[1][..expected.written]);
-        for line in &model {
-            if let Ok(verdict) = line.split(' ').nth(1).unwrap_or_default().parse() {
-                verdicts.seen([verdict]);
-            }
-        }
-        cases.same((report, &input), said, model);
-    }
-    assert_seen(&[&verdicts]);
-    cases.at_least(80_000);
 }
 
 #[test]
