@@ -1,22 +1,62 @@
-# make: proves and builds the library, target/staticlib/libttcrx.a, for C, C++ and Rust; its header is include/ttcrx.h.
-# make test: the gate: the layout of the source files, from nothing every proof and must-fail edit, then the library against the
+# make, make library: proves and builds the library, target/staticlib/libttcrx.a, for C, C++ and Rust (its header is include/ttcrx.h), and the
+# program, target/bin/ttclines.
+# make demo: proves and builds the program, and shows what it prints of docs/example.txt, line by line and in words.
+# make test: the gate: the layout of the source files, from nothing every proof and must-fail edit, then library and program against the
 # independent model.
-# make compare: the library against the independent model of host/, called from Rust, C and C++.
-# make fmt: put every Rattle, antt and Rust file in the layout.
-.PHONY: library compare layout test fmt
+# make compare: library and program against the independent model of host/, called from Rust, C and C++, and the two examples of README.md.
+# make bench: measures program and library beside the independent model, and prints the tables.
+# make layout: says which Rattle, antt and Rust files are not in the layout. make fmt: puts them in it.
+.PHONY: library demo compare bench layout test fmt
 
 ARCHIVE = target/staticlib/libttcrx.a
+PROGRAM = target/bin/ttclines
 WARNINGS = -Wall -Wextra -Wpedantic -Werror
+HOST = --quiet --offline --locked --manifest-path host/Cargo.toml
 
 library:
+	rt check ttclines
 	rt staticlib ttcrx
 
+# What a printed line says, in words: for each refusal and verdict of document 01, and for the end.
+IN_WORDS = \
+	-e 's/^[0-9]+ ! 10$$/refused: not 4 or 11 characters/' \
+	-e 's/^[0-9]+ ! 11$$/refused: a character is no hexadecimal digit/' \
+	-e 's/^[0-9]+ ! 12$$/refused: start, format or leading bits are wrong/' \
+	-e 's/^[0-9]+ ([1-6]) 1 .*/verdict \1, after one wrong bit was corrected/' \
+	-e 's/^[0-9]+ ([1-9]) 0 .*/verdict \1/' \
+	-e 's/^verdict 1/broadcast, executed/' \
+	-e 's/^verdict 2/data stored in a register/' \
+	-e 's/^verdict 3/RESET: the receiver is fresh again/' \
+	-e 's/^verdict 4/E = 1: shown to the electronics outside/' \
+	-e 's/^verdict 5/for another address: no effect/' \
+	-e 's/^verdict 6/unknown sub-address: no effect/' \
+	-e 's/^verdict 7/stop bit 0: dropped, a double error/' \
+	-e 's/^verdict 8/cannot be corrected: dropped, a double error/' \
+	-e 's/^verdict 9/fixed bit 0: dropped, a double error/' \
+	-e 's/^end .*/single errors, double errors, events, bunch number/'
+
+demo:
+	rt check ttclines
+	@$(PROGRAM) < docs/example.txt > target/demo.txt
+	@echo
+	@echo 'Left: docs/example.txt, one frame a line. Middle: what ttclines prints of each line, the number of the line and then verdict, corrected'
+	@echo 'flag and word of the frame, or ! and the number of refusal. Right: the same in words. The receiver has ID 5 and starts fresh.'
+	@echo
+	@sed -E $(IN_WORDS) target/demo.txt | paste docs/example.txt target/demo.txt - | expand -t 14,34
+
 compare: library
-	cargo test --quiet --offline --locked --manifest-path host/Cargo.toml
+	cargo test $(HOST)
 	gcc -std=c11 $(WARNINGS) -Iinclude host/c/interface.c $(ARCHIVE) -o target/interface-c
 	target/interface-c
 	g++ -std=c++17 $(WARNINGS) -Iinclude -x c++ host/c/interface.c -x none $(ARCHIVE) -o target/interface-cxx
 	target/interface-cxx
+	gcc -std=c11 $(WARNINGS) -Iinclude host/c/example.c $(ARCHIVE) -o target/example-c
+	target/example-c
+	cargo run $(HOST) --profile test --example receive
+
+bench: library
+	cargo build --release $(HOST)
+	cargo run --release $(HOST)
 
 layout:
 	rt fmt --check
