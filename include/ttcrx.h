@@ -277,8 +277,10 @@ ttcrx_report ttcrx_report_start(void);
  * Reports the lines that end in a piece of the input, each as ttclines prints it: the line's number,
  * then verdict, corrected flag and word of its frame, or '!' and the refusal. It works until the
  * piece is used up or fewer than 34 bytes of the buffer are free; so a buffer of under 34 bytes uses
- * no input and writes nothing. A frame on a receiver that is not well formed is refused by 2. How
- * the input is cut into pieces does not show in the text.
+ * no input and writes nothing. A frame on a receiver that is not well formed is refused by 2. A word
+ * has 2 digits in a line of 4 characters and 8 in one of 11, also if the receiver given held bits of
+ * another frame, so that the line's last bit finishes that one, or none (verdict 0). How the input is
+ * cut into pieces does not show in the text.
  */
 ttcrx_reported ttcrx_report_input(ttcrx_report report, const uint8_t *input, size_t input_length,
                                   uint8_t *buffer, size_t buffer_length);

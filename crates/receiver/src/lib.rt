@@ -173,8 +173,8 @@ fn still_clocks(core: Core, clocks: u8) -> Clocked
     }
 }
 
-// A whole frame on a receiver that waits: its clocks but the last only count, so they are done at
-// once.
+// A whole frame on a receiver that waits: its clocks before the last only count, and end a running
+// sequence, so they are done at once.
 fn receive_waiting(receiver: Receiver, kind: Kind, number: u64) -> ClockAnswer
     requires { ⌜ (ReceiverFacts receiver) × (receiver .held .count ≡ 0) × (isFrame kind number ≡ true) ⌝ }
     ensures { λ r. ⌜ r ≡ clocksAnswer columnsOf (noClock receiver) (bitsOf (frameBits kind) number) ⌝ }

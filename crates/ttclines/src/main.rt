@@ -122,22 +122,24 @@ fn report_last(report: Report, from: usize, out: &mut [u8]) -> usize
     from + done.written
 }
 
-// What is left in the buffer, and the end.
-fn finish(last: Progress, out: &mut [u8])
+// What is left in the buffer, and the end. Answers whether something could not be written.
+fn finish(last: Progress, out: &mut [u8]) -> bool
     requires { ⌜ last .filled ≤ length (now out) ⌝ }
 {
+    if last.write_failed {
+        return true;
+    }
     let room = make_room(last.filled, END_TEXT, out);
     if room.failed {
-        return;
+        return true;
     }
     let from = room.filled;
     if last.read_failed {
-        io::write_all(1, &out[..from]);
         io::write_all(2, b"ttclines: standard input cannot be read\n");
-        return;
+        return !io::write_all(1, &out[..from]);
     }
     let filled = report_last(last.report, from, out);
-    io::write_all(1, &out[..filled]);
+    !io::write_all(1, &out[..filled])
 }
 
 fn main() {
@@ -145,8 +147,7 @@ fn main() {
     let mut input = [0u8; 4096];
     let mut out = [0u8; 262144];
     let last = read_all(&mut input, &mut out);
-    if last.write_failed {
-        return;
+    if finish(last, &mut out) {
+        io::write_all(2, b"ttclines: standard output cannot be written\n");
     }
-    finish(last, &mut out);
 }
