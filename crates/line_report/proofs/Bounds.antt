@@ -38,7 +38,7 @@ use Rattle.stored_line.proofs.Digits.{length-digits}
 use Rattle.stored_line.proofs.Refusals.{RefusalSmall, refusal-small}
 use Rattle.line_report.specs.declared.LinePart.{LinePart}
 use Rattle.line_report.specs.Text.{decimal, kindDigits, wordDigits, wordText, fateText, refusalText, answerText, lineText, countsText, endText}
-use Rattle.line_report.specs.Output.{lineAnswer, nextLine, linePrints}
+use Rattle.line_report.specs.Output.{feedLine, nextLine, linePrints}
 use Rattle.line_report.specs.declared.Report.{Report}
 use Rattle.line_report.specs.Write.{TextAt}
 use Rattle.line_report.specs.Report.{readPart, longestLine, lastPrints}
@@ -102,7 +102,7 @@ clocks-small columns before [] s = s
 clocks-small columns before (bit ∷ bits) s =
     clocks-small columns (clockAnswer columns (before .receiver) 0 bit) bits (clock-small columns (before .receiver) 0 bit)
 
-line-small : (columns : Kind → List ℕ) (r : Receiver) (line : StoredLine) → RefusalSmall line → Small (lineAnswer columns r line)
+line-small : (columns : Kind → List ℕ) (r : Receiver) (line : StoredLine) → RefusalSmall line → Small (feedLine columns r line)
 unfolding receiveAnswer
 line-small columns r (Frame kind number) s =
     picked Small (wellFormed r)
@@ -152,7 +152,7 @@ digits-small (Refused refusal) = omega arith
 pub line-length : (columns : Kind → List ℕ) (r : Receiver) (lines : ℕ) (line : StoredLine) → RefusalSmall line → length (linePrints columns r lines line) ≤ longestLine
 unfolding lineText
 line-length columns r lines line s =
-    let answer = lineAnswer columns r line in
+    let answer = feedLine columns r line in
     let told = answer-length (wordDigits line) answer (digits-small line) (line-small columns r line s) in
     let behind = length-append (answerText (wordDigits line) answer) (10 ∷ []) in
     let all = length-append (decimal (nextLine lines)) (32 ∷ (answerText (wordDigits line) answer ++ (10 ∷ []))) in

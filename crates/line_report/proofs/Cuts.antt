@@ -18,7 +18,7 @@ use Rattle.stored_line.specs.Read.{readLine}
 use Rattle.line_report.specs.declared.LinePart.{LinePart}
 use Rattle.line_report.specs.declared.Report.{Report}
 use Rattle.line_report.specs.Text.{coreEndText}
-use Rattle.line_report.specs.Output.{lastLine, linesAfter, lineAnswer, nextLine, linePrints, linesPrint, outputOf}
+use Rattle.line_report.specs.Output.{lastLine, linesAfter, feedLine, nextLine, linePrints, linesPrint, outputOf}
 use Rattle.line_report.specs.Report.{noCharacters, emptyPart, withCharacter, readPart, report, startReport, lineEnded, lineEndPrints, afterByte, bytePrints, afterBytes, bytesPrint, longestLine, Work, work, behind, workOn, filled, filledBy, reportInput, longestEnd, afterLast, lastPrints, endPrints, endWork, reportEnd}
 use Rattle.line_report.specs.Cuts.{Offer, writtenBy, offered, reportAll, GoodOffers, Cuts, CutsTheorem, ReportCuts, LongestReached}
 use Rattle.fate.specs.Fate.{columnsOf}
@@ -186,7 +186,7 @@ module _ (columns : Kind → List ℕ) where
   feed-lines now line bytes rest h e =
       ap (λ (text : List ℕ). lineEndPrints columns now (readPart (now .part)) ++ text) e
       ∙ ap (λ (read : StoredLine). linePrints columns (now .receiver) (now .lines) read
-      ++ linesPrint columns (lineAnswer columns (now .receiver) read .receiver) (nextLine (now .lines)) (linesAfter [] bytes)) (holds-read (now .part) line h)
+      ++ linesPrint columns (feedLine columns (now .receiver) read .receiver) (nextLine (now .lines)) (linesAfter [] bytes)) (holds-read (now .part) line h)
 
   -- a line feed, and any other byte
   module _ (now : Report) (byte : ℕ) (line bytes : List ℕ) where

@@ -26,15 +26,17 @@ unfoldable pub linesAfter : List ℕ → List ℕ → List (List ℕ)
 linesAfter characters [] = lastLine characters
 linesAfter characters (byte ∷ bytes) = cond (eqb byte 10) (characters ∷ linesAfter [] bytes) (linesAfter (characters ++ (byte ∷ [])) bytes)
 
+-- the lines of a whole input
 abbrev pub linesOf : List ℕ → List (List ℕ)
 linesOf input = linesAfter [] input
 
 -- ---- what a line does and prints
 
--- "feeds each line's bits with no triggers and no idle between": the last bit's clock. A refused line feeds no bit.
-abbrev pub lineAnswer : (Kind → List ℕ) → Receiver → StoredLine → ClockAnswer
-lineAnswer columns r (Frame kind number) = receiveAnswer columns r kind number
-lineAnswer columns r (Refused refusal) = refusedClock refusal r
+-- "feeds each line's bits with no triggers and no idle between": the last bit's clock. A refused line feeds no bit. On a receiver that is not
+-- well formed, a line that is a frame is refused by 2; another by its own 10, 11 or 12.
+abbrev pub feedLine : (Kind → List ℕ) → Receiver → StoredLine → ClockAnswer
+feedLine columns r (Frame kind number) = receiveAnswer columns r kind number
+feedLine columns r (Refused refusal) = refusedClock refusal r
 
 -- the number of the next line; it has 64 bits
 abbrev pub nextLine : ℕ → ℕ
@@ -42,7 +44,7 @@ nextLine lines = (lines + 1) % 2 ^ 64
 
 -- the text of a line that comes behind so many lines
 abbrev pub linePrints : (Kind → List ℕ) → Receiver → ℕ → StoredLine → List ℕ
-linePrints columns r lines line = lineText (nextLine lines) (wordDigits line) (lineAnswer columns r line)
+linePrints columns r lines line = lineText (nextLine lines) (wordDigits line) (feedLine columns r line)
 
 -- ---- what an input prints
 
@@ -51,11 +53,12 @@ unfoldable pub linesPrint : (Kind → List ℕ) → Receiver → ℕ → List (L
 linesPrint columns r lines [] = coreEndText (r .core)
 linesPrint columns r lines (characters ∷ rest) =
     linePrints columns r lines (readLine characters)
-    ++ linesPrint columns (lineAnswer columns r (readLine characters) .receiver) (nextLine lines) rest
+    ++ linesPrint columns (feedLine columns r (readLine characters) .receiver) (nextLine lines) rest
 
 -- "has ID 5 and I2C ID 5, starts fresh"
 abbrev pub ownReceiver : Receiver
 ownReceiver = freshState (ids 5 5)
 
+-- all that `ttclines` prints of an input
 unfoldable pub outputOf : (Kind → List ℕ) → List ℕ → List ℕ
 outputOf columns input = linesPrint columns ownReceiver 0 (linesOf input)

@@ -1,4 +1,4 @@
--- The report of an input that comes in pieces: its state, one byte of input, a piece, and the end of input. `Report`, `LinePart` and `Reported`
+-- Document 01, "Stored lines", for an input that comes in pieces: the report's state, one byte of input, a piece, and the end of input. `Report`, `LinePart` and `Reported`
 -- are structs of src/lib.rt.
 use Prim.Native.Nat.{ℕ, suc, _+_, _-_}
 use mathlib.Core.Bool.{cond}
@@ -15,7 +15,7 @@ use Rattle.line_report.specs.declared.LinePart.{LinePart}
 use Rattle.line_report.specs.declared.Report.{Report}
 use Rattle.line_report.specs.declared.Reported.{Reported}
 use Rattle.line_report.specs.Text.{coreEndText}
-use Rattle.line_report.specs.Output.{ownReceiver, lineAnswer, nextLine, linePrints}
+use Rattle.line_report.specs.Output.{ownReceiver, feedLine, nextLine, linePrints}
 
 -- ---- the line so far
 
@@ -62,7 +62,7 @@ startReport = report ownReceiver 0 emptyPart
 module _ (columns : Kind → List ℕ) where
   -- a line ends
   abbrev pub lineEnded : Report → StoredLine → Report
-  lineEnded now line = report (lineAnswer columns (now .receiver) line .receiver) (nextLine (now .lines)) emptyPart
+  lineEnded now line = report (feedLine columns (now .receiver) line .receiver) (nextLine (now .lines)) emptyPart
 
   abbrev pub lineEndPrints : Report → StoredLine → List ℕ
   lineEndPrints now line = linePrints columns (now .receiver) (now .lines) line
@@ -72,15 +72,18 @@ module _ (columns : Kind → List ℕ) where
   afterByte now byte =
       cond (eqb byte 10) (lineEnded now (readPart (now .part))) (report (now .receiver) (now .lines) (withCharacter (now .part) byte))
 
+  -- what it prints: nothing before the line feed
   unfoldable pub bytePrints : Report → ℕ → List ℕ
   bytePrints now byte = cond (eqb byte 10) (lineEndPrints now (readPart (now .part))) []
 
   -- ---- all bytes of an input
 
+  -- the report that they leave
   unfoldable pub afterBytes : Report → List ℕ → Report
   afterBytes now [] = now
   afterBytes now (byte ∷ bytes) = afterBytes (afterByte now byte) bytes
 
+  -- and all that they print
   unfoldable pub bytesPrint : Report → List ℕ → List ℕ
   bytesPrint now [] = []
   bytesPrint now (byte ∷ bytes) = bytePrints now byte ++ bytesPrint (afterByte now byte) bytes
@@ -121,18 +124,20 @@ pub record Filled : Type 0 where
 abbrev pub filled : Reported → List ℕ → Filled
 filled answer buffer = record { answer = answer; buffer = buffer }
 
+-- a text at the front of the buffer
 abbrev pub filledBy : Work → List ℕ → Filled
 filledBy done buffer =
     filled
     (record { report = done .report; used = done .used; written = length (done .text) })
     (done .text ++ drop (length (done .text)) buffer)
 
+-- what `report_input` gives
 abbrev pub reportInput : (Kind → List ℕ) → Report → List ℕ → List ℕ → Filled
 reportInput columns now input buffer = filledBy (workOn columns (length buffer) now input) buffer
 
 -- ---- the end of input
 
--- the longest text of the end: a last line, and `end` with numbers of 5, 3, 10 and 5 digits
+-- room that is always enough for the end: a last line, and 31 bytes for `end` with numbers of 5, 3, 10 and 5 digits
 abbrev pub longestEnd : ℕ
 longestEnd = 65
 
@@ -141,9 +146,11 @@ module _ (columns : Kind → List ℕ) where
   unfoldable pub afterLast : Report → Report
   afterLast now = cond (eqb (now .part .count) 0) now (lineEnded columns now (readPart (now .part)))
 
+  -- what it prints
   unfoldable pub lastPrints : Report → List ℕ
   lastPrints now = cond (eqb (now .part .count) 0) [] (lineEndPrints columns now (readPart (now .part)))
 
+  -- all that the end prints
   abbrev pub endPrints : Report → List ℕ
   endPrints now = lastPrints now ++ coreEndText (afterLast now .receiver .core)
 
@@ -151,5 +158,6 @@ module _ (columns : Kind → List ℕ) where
   unfoldable pub endWork : ℕ → Report → Work
   endWork room now = cond (ltb room longestEnd) (work now 0 []) (work (afterLast now) 0 (endPrints now))
 
+-- what `report_end` gives
 abbrev pub reportEnd : (Kind → List ℕ) → Report → List ℕ → Filled
 reportEnd columns now buffer = filledBy (endWork columns (length buffer) now) buffer

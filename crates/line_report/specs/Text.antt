@@ -28,6 +28,7 @@ abbrev pub kindDigits : Kind → ℕ
 kindDigits Short = 2
 kindDigits Long = 8
 
+-- by the kind of the line's own frame, whatever frame its last bit finishes; a refused line has no word
 abbrev pub wordDigits : StoredLine → ℕ
 wordDigits (Frame kind number) = kindDigits kind
 wordDigits (Refused refusal) = 0
@@ -47,6 +48,7 @@ fateText digits shown = decimal (shown .verdict) ++ ((32 ∷ decimal (shown .cor
 unfoldable pub refusalText : ℕ → List ℕ
 refusalText refusal = 33 ∷ 32 ∷ decimal refusal
 
+-- what the clock of the line's last bit shows, or the refusal
 unfoldable pub answerText : ℕ → ClockAnswer → List ℕ
 answerText digits answer = cond (eqb (answer .refusal) 0) (fateText digits (answer .outputs)) (refusalText (answer .refusal))
 
@@ -54,7 +56,8 @@ answerText digits answer = cond (eqb (answer .refusal) 0) (fateText digits (answ
 unfoldable pub lineText : ℕ → ℕ → ClockAnswer → List ℕ
 lineText number digits answer = decimal number ++ (32 ∷ (answerText digits answer ++ (10 ∷ [])))
 
--- "single errors, double errors, event count, bunch count, in decimal"
+-- "single errors, double errors, event count, bunch count, in decimal": the receiver's own counters, which stop at their tops and which RESET
+-- zeroes
 unfoldable pub countsText : ℕ → ℕ → ℕ → ℕ → List ℕ
 countsText single double event bunch = (32 ∷ decimal single) ++ ((32 ∷ decimal double) ++ ((32 ∷ decimal event) ++ (32 ∷ decimal bunch)))
 
@@ -62,5 +65,6 @@ countsText single double event bunch = (32 ∷ decimal single) ++ ((32 ∷ decim
 unfoldable pub endText : ℕ → ℕ → ℕ → ℕ → List ℕ
 endText single double event bunch = 101 ∷ 110 ∷ 100 ∷ (countsText single double event bunch ++ (10 ∷ []))
 
+-- the same of a receiver's counters
 abbrev pub coreEndText : Core → List ℕ
 coreEndText core = endText (core .errors .single) (core .errors .double) (core .counters .event) (core .counters .bunch)

@@ -1,4 +1,4 @@
--- One turn over a piece of input, to the next line feed or to the end: what was done, and what is left to be done behind it.
+-- One turn of `report_input` over a piece of input: what was done, and what is left to be done behind it. Only private contracts cite it.
 use Prim.Native.Nat.{ℕ, _+_, _-_, _≤_, _<_}
 use mathlib.Core.Path.{_≡_}
 use mathlib.Core.List.{List}

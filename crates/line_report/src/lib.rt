@@ -8,7 +8,7 @@ ghost use Prim.Native.Nat.{_+_, _≤_, _<_};
 ghost use lib.ListN.{length};
 ghost use Rattle.fate.specs.Fate.{columnsOf};
 ghost use Rattle.line_report.specs.Text.{kindDigits, wordDigits};
-ghost use Rattle.line_report.specs.Output.{lineAnswer};
+ghost use Rattle.line_report.specs.Output.{feedLine};
 ghost use Rattle.line_report.specs.Write.{TextAt};
 ghost use Rattle.line_report.specs.Turn.{Turned};
 ghost use Rattle.line_report.specs.Report.{startReport, untilFeed, lineEnded, lineEndPrints, longestLine, afterLast, lastPrints, filled, reportInput, reportEnd};
@@ -58,7 +58,7 @@ struct Ended {
     next: usize,
 }
 
-// The longest text of a line, and of the end with a last line before it.
+// The longest text of a line, and room that is always enough for the end.
 const LONGEST_LINE: usize = 34;
 
 const LONGEST_END: usize = 65;
@@ -111,8 +111,8 @@ fn kind_digits(kind: Kind) -> usize
 }
 
 // A line's bits go through the receiver; a refused line has none.
-fn line_answer(receiver: Receiver, line: StoredLine) -> ClockAnswer
-    ensures { λ r. ⌜ r ≡ lineAnswer columnsOf receiver line ⌝ }
+fn feed_line(receiver: Receiver, line: StoredLine) -> ClockAnswer
+    ensures { λ r. ⌜ r ≡ feedLine columnsOf receiver line ⌝ }
 {
     match line {
         StoredLine::Frame { kind, number } => receive_frame(receiver, kind, number),
@@ -125,7 +125,7 @@ fn end_line(report: Report, line: StoredLine, at: usize, out: &mut [u8]) -> Ende
     requires { ⌜ at + length (lineEndPrints columnsOf report line) ≤ length (now out) ⌝ }
     ensures { λ r. ⌜ (r .report ≡ lineEnded columnsOf report line) × (TextAt (r .next) at (lineEndPrints columnsOf report line) (now (out .entry)) (now (out .exit))) ⌝ }
 {
-    let answer = line_answer(report.receiver, line);
+    let answer = feed_line(report.receiver, line);
     let lines = std::num::wrapping_add_u64(report.lines, 1);
     let next = put_line(lines, word_digits(line), answer, at, out);
     let receiver = answer.receiver;
@@ -184,7 +184,7 @@ fn report_line(before: Reported, input: &[u8], out: &mut [u8]) -> Reported
 }
 
 // Reports the lines that end in a piece of the input, until it is used up or the buffer could not
-// hold another line's text.
+// hold another line's text. The second `ensures` follows from the first; it serves callers' bounds.
 pub fn report_input(report: Report, input: &[u8], out: &mut [u8]) -> Reported
     ensures { λ r. ⌜ filled r (now (out .exit)) ≡ reportInput columnsOf report (now (input .entry)) (now (out .entry)) ⌝ }
     ensures { λ r. ⌜ (r .used ≤ length (now (input .entry))) × (r .written ≤ length (now (out .entry))) ⌝ }

@@ -57,18 +57,18 @@ fn put_fate(digits: usize, shown: Outputs, at: usize, out: &mut [u8]) -> usize
     requires { ⌜ at + length (fateText digits shown) ≤ length (now out) ⌝ }
     ensures { λ r. ⌜ TextAt r at (fateText digits shown) (now (out .entry)) (now (out .exit)) ⌝ }
 {
-    let verdict = put_decimal(shown.verdict as u64, at, out);
-    let flag = put_field(shown.corrected as u64, verdict, out);
-    let space = put(b' ', flag, out);
-    put_word(digits, shown, space, out)
+    let after_verdict = put_decimal(shown.verdict as u64, at, out);
+    let after_flag = put_field(shown.corrected as u64, after_verdict, out);
+    let after_space = put(b' ', after_flag, out);
+    put_word(digits, shown, after_space, out)
 }
 
 fn put_refusal(refusal: u8, at: usize, out: &mut [u8]) -> usize
     requires { ⌜ at + length (refusalText refusal) ≤ length (now out) ⌝ }
     ensures { λ r. ⌜ TextAt r at (refusalText refusal) (now (out .entry)) (now (out .exit)) ⌝ }
 {
-    let mark = put(b'!', at, out);
-    put_field(refusal as u64, mark, out)
+    let after_mark = put(b'!', at, out);
+    put_field(refusal as u64, after_mark, out)
 }
 
 fn put_answer(digits: usize, answer: ClockAnswer, at: usize, out: &mut [u8]) -> usize
@@ -92,10 +92,10 @@ pub(crate) fn put_line(
     requires { ⌜ at + length (lineText number digits answer) ≤ length (now out) ⌝ }
     ensures { λ r. ⌜ TextAt r at (lineText number digits answer) (now (out .entry)) (now (out .exit)) ⌝ }
 {
-    let name = put_decimal(number, at, out);
-    let space = put(b' ', name, out);
-    let told = put_answer(digits, answer, space, out);
-    put(b'\n', told, out)
+    let after_number = put_decimal(number, at, out);
+    let after_space = put(b' ', after_number, out);
+    let after_answer = put_answer(digits, answer, after_space, out);
+    put(b'\n', after_answer, out)
 }
 
 // The four counts of the end.
@@ -103,10 +103,10 @@ fn put_counts(single: u16, double: u8, event: u32, bunch: u16, at: usize, out: &
     requires { ⌜ at + length (countsText single double event bunch) ≤ length (now out) ⌝ }
     ensures { λ r. ⌜ TextAt r at (countsText single double event bunch) (now (out .entry)) (now (out .exit)) ⌝ }
 {
-    let singles = put_field(single as u64, at, out);
-    let doubles = put_field(double as u64, singles, out);
-    let events = put_field(event as u64, doubles, out);
-    put_field(bunch as u64, events, out)
+    let after_single = put_field(single as u64, at, out);
+    let after_double = put_field(double as u64, after_single, out);
+    let after_event = put_field(event as u64, after_double, out);
+    put_field(bunch as u64, after_event, out)
 }
 
 // The line at the end. Its numbers have at most 5, 3, 10 and 5 digits.
@@ -121,9 +121,9 @@ pub(crate) fn put_end(
     requires { ⌜ at + 31 ≤ length (now out) ⌝ }
     ensures { λ r. ⌜ (TextAt r at (endText single double event bunch) (now (out .entry)) (now (out .exit))) × (r ≤ at + 31) ⌝ }
 {
-    let e = put(b'e', at, out);
-    let n = put(b'n', e, out);
-    let d = put(b'd', n, out);
-    let counts = put_counts(single, double, event, bunch, d, out);
-    put(b'\n', counts, out)
+    let after_e = put(b'e', at, out);
+    let after_n = put(b'n', after_e, out);
+    let after_d = put(b'd', after_n, out);
+    let after_counts = put_counts(single, double, event, bunch, after_d, out);
+    put(b'\n', after_counts, out)
 }

@@ -6,8 +6,8 @@ use borrow.Author.Needs.{needs}
 use Rattle.line_report.proofs.end_line.Statement.{statement}
 use Rattle.line_report.proofs.end_line.Tie as tie
 
-line-answer-requires : tie.Need-line-answer-requires
-line-answer-requires c κs = search needs
+feed-line-requires : tie.Need-feed-line-requires
+feed-line-requires c κs = search needs
 
 wrapping-add-u64-requires : tie.Need-wrapping-add-u64-requires
 wrapping-add-u64-requires c κs = search needs
@@ -16,7 +16,7 @@ word-digits-requires : tie.Need-word-digits-requires
 word-digits-requires c κs = search needs
 
 put-line-requires : tie.Need-put-line-requires
-put-line-requires c κs = rw (c .before .word-digits .ensures, c .before .before .wrapping-add-u64 .ensures, c .before .before .before .line-answer .ensures) (c .before .before .before .before .before .pre)
+put-line-requires c κs = rw (c .before .word-digits .ensures, c .before .before .wrapping-add-u64 .ensures, c .before .before .before .feed-line .ensures) (c .before .before .before .before .before .pre)
 
 empty-part-requires : tie.Need-empty-part-requires
 empty-part-requires c κs = search needs
@@ -29,14 +29,14 @@ returns c =
     let put = c .before .before .before .before in
     let digits = put .before .before .word-digits .ensures in
     let lines = put .before .before .before .wrapping-add-u64 .ensures in
-    let answer = put .before .before .before .before .line-answer .ensures in
+    let answer = put .before .before .before .before .feed-line .ensures in
     (rw (lines, answer, c .empty-part .ensures) refl, rw (digits, lines, answer) at (put .put-line .ensures))
 
 pub end-line-spec : {M : Type 1} → statement M
 end-line-spec =
     tie.close
     (tie.spec
-    line-answer-requires
+    feed-line-requires
     wrapping-add-u64-requires
     word-digits-requires
     put-line-requires

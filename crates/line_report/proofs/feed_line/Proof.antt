@@ -1,7 +1,7 @@
--- `line_report::line_answer` meets its contract: each arm knows the line. Assumes nothing.
+-- `line_report::feed_line` meets its contract: each arm knows the line. Assumes nothing.
 use borrow.Author.Needs.{needs}
-use Rattle.line_report.proofs.line_answer.Statement.{statement}
-use Rattle.line_report.proofs.line_answer.Tie as tie
+use Rattle.line_report.proofs.feed_line.Statement.{statement}
+use Rattle.line_report.proofs.feed_line.Tie as tie
 
 enum-known-line : tie.Need-enum-known-line
 enum-known-line c = search needs
@@ -21,8 +21,8 @@ returns c = rw (c .before .before .line .given .1) (c .receive-frame .ensures)
 returns-2 : tie.Need-returns-2
 returns-2 c = rw (c .before .before .line2 .given .1) (c .refuse-clock .ensures)
 
-pub line-answer-spec : {M : Type 1} → statement M
-line-answer-spec =
+pub feed-line-spec : {M : Type 1} → statement M
+feed-line-spec =
     tie.close
     (tie.spec
     enum-known-line
