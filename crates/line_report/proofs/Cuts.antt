@@ -9,7 +9,7 @@ use native.Mathlib.Omega.{arith}
 use borrow.Author.Tests.{lt-ltb, le-ltb, ltb-true, ltb-false, eq-eqb, ne-eqb}
 use lib.Dec.{eqb, ltb}
 use lib.ListN.{length, take, drop, length-append, length-take, length-drop}
-use lib.Seq.{take-append-seam, take-take, take-add, take-all, length-take-le, drop-nil}
+use lib.Seq.{take-append-seam, drop-append-seam, take-take, take-add, take-all, length-take-le, drop-nil}
 use Rattle.laws.proofs.Rules.{picked-by, by-test}
 use Rattle.frame.specs.declared.Kind.{Kind}
 use Rattle.receiver_state.specs.declared.Receiver.{Receiver}
@@ -18,9 +18,9 @@ use Rattle.stored_line.specs.Read.{readLine}
 use Rattle.line_report.specs.declared.LinePart.{LinePart}
 use Rattle.line_report.specs.declared.Report.{Report}
 use Rattle.line_report.specs.Text.{coreEndText}
-use Rattle.line_report.specs.Output.{lastLine, linesAfter, feedLine, nextLine, linePrints, linesPrint, outputOf}
+use Rattle.line_report.specs.Output.{lastLine, linesAfter, feedLine, nextLine, linePrints, linesPrint, linesLeave, outputOf}
 use Rattle.line_report.specs.Report.{noCharacters, emptyPart, withCharacter, readPart, report, startReport, lineEnded, lineEndPrints, afterByte, bytePrints, afterBytes, bytesPrint, longestLine, Work, work, behind, workOn, filled, filledBy, reportInput, longestEnd, afterLast, lastPrints, endPrints, endWork, reportEnd}
-use Rattle.line_report.specs.Cuts.{Offer, writtenBy, offered, reportAll, GoodOffers, Cuts, CutsTheorem, ReportCuts, LongestReached}
+use Rattle.line_report.specs.Cuts.{Offer, writtenBy, offered, reportAll, GoodOffers, Piece, inputOf, offersOf, RoomForAll, CutsTheorem, ReportCuts, LongestReached}
 use Rattle.fate.specs.Fate.{columnsOf}
 use Rattle.line_report.proofs.LineSoFar.{Kept, Dropped, Holds, none-yet, holds-one, holds-read}
 use Rattle.line_report.proofs.Work.{no-room, byte-fits}
@@ -248,21 +248,106 @@ module _ (columns : Kind → List ℕ) where
       ∙ from-here
       ∙ ap (linesPrint columns (now .receiver) (now .lines)) (sym (other-splits now byte line bytes t)))
 
+  end-is : (now : Report) (buffer : List ℕ) → longestEnd ≤ length buffer → endWork columns (length buffer) now ≡ work (afterLast columns now) 0 (endPrints columns now)
+  unfolding endWork
+  end-is now buffer room = rw (le-ltb (length buffer) longestEnd room) refl
+
   whole : (input : List ℕ) (offers : List Offer) (buffer : List ℕ) → let all = reportAll columns startReport input offers in
       all .used ≡ length input → longestEnd ≤ length buffer
       → all .text ++ writtenBy (reportEnd columns (all .report) buffer) ≡ outputOf columns input
-  unfolding outputOf endWork
+  unfolding outputOf
   whole input offers buffer u room =
       let all = reportAll columns startReport input offers in
       let d = calls-done startReport input offers in
       let covers : length input ≤ all .used = omega arith in
       let front : take (all .used) input ≡ input = take-all _ _ covers in
       let reported : all .report ≡ afterBytes columns startReport input = d .report-is ∙ ap (afterBytes columns startReport) front in
-      let end : endWork columns (length buffer) (all .report) ≡ work (afterLast columns (all .report)) 0 (endPrints columns (all .report)) =
-      rw (le-ltb (length buffer) longestEnd room) refl in
+      let end = end-is (all .report) buffer room in
       ap₂ (λ (a b : List ℕ). a ++ b) (d .text-is ∙ ap (bytesPrint columns startReport) front)
       (written-is (endWork columns (length buffer) (all .report)) buffer ∙ ap (λ (w : Work). w .text) end ∙ ap (endPrints columns) reported)
       ∙ by-lines input startReport [] (none-yet noCharacters refl)
+
+  -- ---- the receiver, byte for byte and line by line
+
+  end-leaves : (now : Report) (line : List ℕ) → Holds (now .part) line → afterLast columns now .receiver ≡ linesLeave columns (now .receiver) (lastLine line)
+  unfolding afterLast linesLeave
+  end-leaves now [] h = rw (eq-eqb (now .part .count) 0 (no-characters (now .part) h)) refl
+  end-leaves now (character ∷ characters) h =
+      rw (ne-eqb (now .part .count) 0 (some-characters (now .part) character characters h))
+      (ap (λ (read : StoredLine). feedLine columns (now .receiver) read .receiver) (holds-read (now .part) (character ∷ characters) h))
+
+  abbrev leavesOn : Report → List ℕ → Receiver
+  leavesOn now input = afterLast columns (afterBytes columns now input) .receiver
+
+  leaves-none : (now : Report) → leavesOn now [] ≡ afterLast columns now .receiver
+  unfolding afterBytes
+  leaves-none now = refl
+
+  leaves-one : (now : Report) (byte : ℕ) (bytes : List ℕ) → leavesOn now (byte ∷ bytes) ≡ leavesOn (afterByte columns now byte) bytes
+  unfolding afterBytes
+  leaves-one now byte bytes = refl
+
+  line-left : (r : Receiver) (line : List ℕ) (rest : List (List ℕ))
+      → linesLeave columns (feedLine columns r (readLine line) .receiver) rest ≡ linesLeave columns r (line ∷ rest)
+  unfolding linesLeave
+  line-left r line rest = refl
+
+  leaves-lines : (input : List ℕ) (now : Report) (line : List ℕ) → Holds (now .part) line
+      → leavesOn now input ≡ linesLeave columns (now .receiver) (linesAfter line input)
+  leaves-lines [] now line h = leaves-none now ∙ end-leaves now line h ∙ ap (linesLeave columns (now .receiver)) (none-split line)
+  leaves-lines (byte ∷ bytes) now line h =
+      let ended = lineEnded columns now (readPart (now .part)) in
+      let longer = report (now .receiver) (now .lines) (withCharacter (now .part) byte) in
+      let from-next = leaves-lines bytes ended [] (none-yet noCharacters refl) in
+      let from-here = leaves-lines bytes longer (line ++ (byte ∷ [])) (holds-one (now .part) line byte h) in
+      leaves-one now byte bytes
+      ∙ by-test (eqb byte 10)
+      (λ t. ap (λ (r : Report). leavesOn r bytes) (feed-after now byte line bytes t)
+      ∙ from-next
+      ∙ ap (λ (read : StoredLine). linesLeave columns (feedLine columns (now .receiver) read .receiver) (linesAfter [] bytes)) (holds-read (now .part) line h)
+      ∙ line-left (now .receiver) line (linesAfter [] bytes)
+      ∙ ap (linesLeave columns (now .receiver)) (sym (feed-splits now byte line bytes t)))
+      (λ t. ap (λ (r : Report). leavesOn r bytes) (other-after now byte line bytes t)
+      ∙ from-here
+      ∙ ap (linesLeave columns (now .receiver)) (sym (other-splits now byte line bytes t)))
+
+  small-end : (now : Report) (buffer : List ℕ) → length buffer < longestEnd → endWork columns (length buffer) now ≡ work now 0 []
+  unfolding endWork
+  small-end now buffer h = rw (lt-ltb (length buffer) longestEnd h) refl
+
+  left : (input : List ℕ) (offers : List Offer) (buffer : List ℕ) → let all = reportAll columns startReport input offers in
+      all .used ≡ length input → longestEnd ≤ length buffer
+      → reportEnd columns (all .report) buffer .answer .report .receiver ≡ linesLeave columns (startReport .receiver) (linesAfter [] input)
+  left input offers buffer u room =
+      let all = reportAll columns startReport input offers in
+      let covers : length input ≤ all .used = omega arith in
+      let front : take (all .used) input ≡ input = take-all _ _ covers in
+      let reported = calls-done startReport input offers .report-is ∙ ap (afterBytes columns startReport) front in
+      ap (λ (w : Work). w .report .receiver) (end-is (all .report) buffer room)
+      ∙ ap (λ (r : Report). afterLast columns r .receiver) reported
+      ∙ leaves-lines input startReport [] (none-yet noCharacters refl)
+
+  -- ---- pieces with room for all
+
+  piece-used : (now : Report) (piece : Piece) (rest : List ℕ) → longestLine * length (piece .bytes) ≤ length (piece .buffer)
+      → offered columns now (piece .bytes ++ rest) (record { count = length (piece .bytes); buffer = piece .buffer }) .answer .used ≡ length (piece .bytes)
+  piece-used now piece rest h =
+      ap (λ (bytes : List ℕ). workOn columns (length (piece .buffer)) now bytes .used) (take-append-seam (piece .bytes) rest)
+      ∙ room-for-all (length (piece .buffer)) now (piece .bytes) h
+
+  pieces-used : (now : Report) (pieces : List Piece) → RoomForAll pieces
+      → reportAll columns now (inputOf pieces) (offersOf pieces) .used ≡ length (inputOf pieces)
+  unfolding reportAll inputOf offersOf
+  pieces-used now [] rooms = refl
+  pieces-used now (piece ∷ pieces) (room, rooms) =
+      let offer : Offer = record { count = length (piece .bytes); buffer = piece .buffer } in
+      let call = offered columns now (piece .bytes ++ inputOf pieces) offer in
+      let first = piece-used now piece (inputOf pieces) room in
+      let left : drop (call .answer .used) (piece .bytes ++ inputOf pieces) ≡ inputOf pieces =
+      ap (λ (n : ℕ). drop n (piece .bytes ++ inputOf pieces)) first ∙ drop-append-seam (piece .bytes) (inputOf pieces) in
+      ap₂ (λ (n m : ℕ). n + m) first
+      (ap (λ (input : List ℕ). reportAll columns (call .answer .report) input (offersOf pieces) .used) left ∙ pieces-used (call .answer .report) pieces rooms)
+      ∙ sym (length-append (piece .bytes) (inputOf pieces))
 
 pub cuts-theorem : CutsTheorem
 cuts-theorem columns =
@@ -274,8 +359,13 @@ cuts-theorem columns =
       enough-room = λ now input buffer h. room-for-all columns (length buffer) now input h;
       same-text = λ now input offers. calls-done columns now input offers .text-is;
       same-report = λ now input offers. calls-done columns now input offers .report-is;
+      small-end = λ now buffer h. ap (λ (w : Work). filledBy w buffer) (small-end columns now buffer h);
       used-up = calls-use-all columns;
+      pieces-used-up = pieces-used columns;
       whole-output = whole columns;
+      whole-state = left columns;
+      pieces-output = λ pieces buffer rooms room. whole columns (inputOf pieces) (offersOf pieces) buffer (pieces-used columns startReport pieces rooms) room;
+      offers-output = λ input offers buffer good many room. whole columns input offers buffer (calls-use-all columns startReport input offers good many) room;
     }
 
 pub report-cuts : ReportCuts

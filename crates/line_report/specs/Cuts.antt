@@ -1,4 +1,5 @@
--- How an input is cut into pieces, and how large the buffers are, never shows in what is written. Proved in proofs/Cuts.antt.
+-- Document 01, "Stored lines", for an input that comes in pieces: how it is cut, and how large the buffers are, never shows in what is written.
+-- Proved in proofs/Cuts.antt.
 use Prim.Native.Nat.{ℕ, _+_, _-_, _*_, _^_, _≤_, _<_}
 use mathlib.Core.Path.{_≡_}
 use mathlib.Core.Logic.{_⊎_}
@@ -7,7 +8,7 @@ use lib.ListN.{length, take, drop}
 use Rattle.frame.specs.declared.Kind.{Kind}
 use Rattle.fate.specs.Fate.{columnsOf}
 use Rattle.line_report.specs.declared.Report.{Report}
-use Rattle.line_report.specs.Output.{ownReceiver, outputOf}
+use Rattle.line_report.specs.Output.{linesOf, linesLeave, ownReceiver, outputOf}
 use Rattle.line_report.specs.Report.{linePart, report, startReport, bytePrints, afterBytes, bytesPrint, longestLine, Work, work, Filled, filled, reportInput, longestEnd, reportEnd}
 
 -- ---- a list of calls
@@ -39,10 +40,27 @@ abbrev pub GoodOffers : List Offer → Type 0
 GoodOffers [] = Unit {0}
 GoodOffers (offer ∷ offers) = ((1 ≤ offer .count) × (longestLine ≤ length (offer .buffer))) × GoodOffers offers
 
+-- the same for an input that is given piece by piece, each with a buffer that has room for a line's text for each of its bytes
+pub record Piece : Type 0 where
+  pub bytes : List ℕ
+  pub buffer : List ℕ
+
+unfoldable pub inputOf : List Piece → List ℕ
+inputOf [] = []
+inputOf (piece ∷ pieces) = piece .bytes ++ inputOf pieces
+
+unfoldable pub offersOf : List Piece → List Offer
+offersOf [] = []
+offersOf (piece ∷ pieces) = record { count = length (piece .bytes); buffer = piece .buffer } ∷ offersOf pieces
+
+abbrev pub RoomForAll : List Piece → Type 0
+RoomForAll [] = Unit {0}
+RoomForAll (piece ∷ pieces) = (longestLine * length (piece .bytes) ≤ length (piece .buffer)) × RoomForAll pieces
+
 -- ---- the statement
 
 pub record Cuts (columns : Kind → List ℕ) : Type 0 where
-  -- no line's text is longer than that
+  -- no line's text is longer than `longestLine`
   pub no-longer : (now : Report) (byte : ℕ) → length (bytePrints columns now byte) ≤ longestLine
   -- a buffer too small for a line's text: no input is used and nothing is written
   pub small-buffer : (now : Report) (input buffer : List ℕ) → length buffer < longestLine
@@ -60,12 +78,28 @@ pub record Cuts (columns : Kind → List ℕ) : Type 0 where
       all .text ≡ bytesPrint columns now (take (all .used) input)
   pub same-report : (now : Report) (input : List ℕ) (offers : List Offer) → let all = reportAll columns now input offers in
       all .report ≡ afterBytes columns now (take (all .used) input)
-  -- so many good offers use up the input
+  -- a buffer too small for the end, which `longestEnd` bytes are always enough for: nothing is written, and the report stays
+  pub small-end : (now : Report) (buffer : List ℕ) → length buffer < longestEnd
+      → reportEnd columns now buffer ≡ filled (record { report = now; used = 0; written = 0 }) buffer
+  -- as many good offers as bytes use up the input, and so do its pieces with room for all
   pub used-up : (now : Report) (input : List ℕ) (offers : List Offer) → GoodOffers offers → length input ≤ length offers
       → reportAll columns now input offers .used ≡ length input
-  -- from the beginning: when the input is used up and the end has room, the bytes written in all are those of the whole input
+  pub pieces-used-up : (now : Report) (pieces : List Piece) → RoomForAll pieces
+      → reportAll columns now (inputOf pieces) (offersOf pieces) .used ≡ length (inputOf pieces)
+  -- from the beginning: when the input is used up and the end has room, the bytes written in all are those of the whole input, and the receiver is
+  -- the one that its lines leave
   pub whole-output : (input : List ℕ) (offers : List Offer) (buffer : List ℕ) → let all = reportAll columns startReport input offers in
       all .used ≡ length input → longestEnd ≤ length buffer
+      → all .text ++ writtenBy (reportEnd columns (all .report) buffer) ≡ outputOf columns input
+  pub whole-state : (input : List ℕ) (offers : List Offer) (buffer : List ℕ) → let all = reportAll columns startReport input offers in
+      all .used ≡ length input → longestEnd ≤ length buffer
+      → reportEnd columns (all .report) buffer .answer .report .receiver ≡ linesLeave columns ownReceiver (linesOf input)
+  -- so for every cut into pieces with room, and for every cut with as many good offers as bytes, the output is that of the whole input
+  pub pieces-output : (pieces : List Piece) (buffer : List ℕ) → let all = reportAll columns startReport (inputOf pieces) (offersOf pieces) in
+      RoomForAll pieces → longestEnd ≤ length buffer
+      → all .text ++ writtenBy (reportEnd columns (all .report) buffer) ≡ outputOf columns (inputOf pieces)
+  pub offers-output : (input : List ℕ) (offers : List Offer) (buffer : List ℕ) → let all = reportAll columns startReport input offers in
+      GoodOffers offers → length input ≤ length offers → longestEnd ≤ length buffer
       → all .text ++ writtenBy (reportEnd columns (all .report) buffer) ≡ outputOf columns input
 
 abbrev pub CutsTheorem : Type 0

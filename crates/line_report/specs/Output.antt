@@ -55,6 +55,11 @@ linesPrint columns r lines (characters ∷ rest) =
     linePrints columns r lines (readLine characters)
     ++ linesPrint columns (feedLine columns r (readLine characters) .receiver) (nextLine lines) rest
 
+-- the receiver after lines
+unfoldable pub linesLeave : (Kind → List ℕ) → Receiver → List (List ℕ) → Receiver
+linesLeave columns r [] = r
+linesLeave columns r (characters ∷ rest) = linesLeave columns (feedLine columns r (readLine characters) .receiver) rest
+
 -- "has ID 5 and I2C ID 5, starts fresh"
 abbrev pub ownReceiver : Receiver
 ownReceiver = freshState (ids 5 5)

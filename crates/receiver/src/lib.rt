@@ -179,15 +179,15 @@ fn receive_waiting(receiver: Receiver, kind: Kind, number: u64) -> ClockAnswer
     requires { ⌜ (ReceiverFacts receiver) × (receiver .held .count ≡ 0) × (isFrame kind number ≡ true) ⌝ }
     ensures { λ r. ⌜ r ≡ clocksAnswer columnsOf (noClock receiver) (bitsOf (frameBits kind) number) ⌝ }
 {
-    let idle = still_clocks(receiver.core, frame_bits(kind));
-    let clocked = finish(kind, number, idle);
+    let still = still_clocks(receiver.core, frame_bits(kind));
+    let clocked = finish(kind, number, still);
     let core = clocked.core;
     let outputs = clocked.outputs;
     let held = Held { count: 0, bits: 0 };
-    let next = Receiver { core, held };
+    let waiting = Receiver { core, held };
     ClockAnswer {
         refusal: 0,
-        receiver: next,
+        receiver: waiting,
         outputs,
     }
 }

@@ -1,17 +1,17 @@
 // Document 01, "Stored lines": the program `ttclines`. It reads standard input, hands each piece to
-// `line_report`, and writes what that reports.
-ghost use Prim.Native.Nat.{_≤_};
+// `line_report`, and writes what that reports. The contracts say that no byte read is lost: each
+// piece is used up.
+ghost use mathlib.Core.Path.{_≡_};
+ghost use Prim.Native.Nat.{_+_, _*_, _≤_};
 ghost use lib.ListN.{length};
+ghost use Rattle.line_report.specs.Report.{longestLine, longestEnd};
+use line_report::LONGEST_END;
+use line_report::LONGEST_LINE;
 use line_report::Report;
+use line_report::Reported;
 use line_report::report_end;
 use line_report::report_input;
 use line_report::start_report;
-
-// So much text may a piece of 4,096 bytes give: a line's longest text, 34 bytes, for each of them.
-const MOST_TEXT: usize = 139264;
-
-// And so much the end of input.
-const END_TEXT: usize = 65;
 
 // What is kept between two reads: the report, how much of the output buffer is filled, and whether
 // the input may go on.
@@ -29,10 +29,10 @@ pub struct Room {
     pub failed: bool,
 }
 
-// The buffer is written out when so little of it is free.
+// The buffer is written out when less than so much of it is free.
 fn make_room(filled: usize, least: usize, out: &[u8]) -> Room
-    requires { ⌜ filled ≤ length (now out) ⌝ }
-    ensures { λ r. ⌜ r .filled ≤ filled ⌝ }
+    requires { ⌜ (filled ≤ length (now out)) × (least ≤ length (now out)) ⌝ }
+    ensures { λ r. ⌜ (r .filled ≤ filled) × (r .filled + least ≤ length (now (out .entry))) ⌝ }
 {
     if least <= out.len() - filled {
         return Room {
@@ -47,54 +47,67 @@ fn make_room(filled: usize, least: usize, out: &[u8]) -> Room
     }
 }
 
-// The input has ended, or cannot be read.
-fn stopped(before: Progress, read_failed: bool) -> Progress
-    ensures { λ r. ⌜ r .filled ≤ before .filled ⌝ }
+// The input has ended, or something failed.
+fn stopped(before: Progress, filled: usize, read_failed: bool, write_failed: bool) -> Progress
+    ensures { λ r. ⌜ r .filled ≡ filled ⌝ }
 {
     let report = before.report;
     Progress {
         report,
-        filled: before.filled,
+        filled,
         more: false,
         read_failed,
-        write_failed: false,
+        write_failed,
     }
 }
 
-// The lines that end in a piece of the input.
+// The lines that end in a piece of the input, behind what is in the buffer. With room for a line's
+// text for each byte, all of the piece is used.
+fn report_whole(report: Report, piece: &[u8], from: usize, out: &mut [u8]) -> Reported
+    requires { ⌜ from + longestLine * length (now piece) ≤ length (now out) ⌝ }
+    ensures { λ r. ⌜ (r .used ≡ length (now (piece .entry))) × (from + r .written ≤ length (now (out .exit))) ⌝ }
+{
+    report_input(report, piece, &mut out[from..])
+}
+
+// The same, after room was made.
 fn report_piece(before: Progress, piece: &[u8], out: &mut [u8]) -> Progress
-    requires { ⌜ before .filled ≤ length (now out) ⌝ }
+    requires { ⌜ (before .filled ≤ length (now out)) × (length (now piece) ≤ 4096) × (longestLine * 4096 ≤ length (now out)) ⌝ }
     ensures { λ r. ⌜ r .filled ≤ length (now (out .exit)) ⌝ }
 {
-    let room = make_room(before.filled, MOST_TEXT, out);
+    let room = make_room(before.filled, LONGEST_LINE * 4096, out);
+    if room.failed {
+        return stopped(before, 0, false, true);
+    }
     let from = room.filled;
-    let done = report_input(before.report, piece, &mut out[from..]);
+    let done = report_whole(before.report, piece, from, out);
     let report = done.report;
     Progress {
         report,
         filled: from + done.written,
-        more: !room.failed,
+        more: true,
         read_failed: false,
-        write_failed: room.failed,
+        write_failed: false,
     }
 }
 
 // One read, and the lines that end in it.
 fn read_piece(before: Progress, input: &mut [u8], out: &mut [u8]) -> Progress
-    requires { ⌜ before .filled ≤ length (now out) ⌝ }
+    requires { ⌜ (before .filled ≤ length (now out)) × (length (now input) ≤ 4096) × (longestLine * 4096 ≤ length (now out)) ⌝ }
     ensures { λ r. ⌜ r .filled ≤ length (now (out .exit)) ⌝ }
 {
     let got = libc::read(0, input);
     if got <= 0 {
-        return stopped(before, got < 0);
+        return stopped(before, before.filled, got < 0, false);
     }
     let count = io::count(got, input);
     report_piece(before, &input[..count], out)
 }
 
 // A proved loop has to end, and nothing says that the input does: the turns are counted down from a
-// number that no run uses up.
+// number of reads that no run reaches.
 fn read_all(input: &mut [u8], out: &mut [u8]) -> Progress
+    requires { ⌜ (length (now input) ≤ 4096) × (longestLine * 4096 ≤ length (now out)) ⌝ }
     ensures { λ r. ⌜ r .filled ≤ length (now (out .exit)) ⌝ }
 {
     let start = start_report();
@@ -115,7 +128,7 @@ fn read_all(input: &mut [u8], out: &mut [u8]) -> Progress
 
 // The end of the report, behind what is in the buffer.
 fn report_last(report: Report, from: usize, out: &mut [u8]) -> usize
-    requires { ⌜ from ≤ length (now out) ⌝ }
+    requires { ⌜ from + longestEnd ≤ length (now out) ⌝ }
     ensures { λ r. ⌜ r ≤ length (now (out .exit)) ⌝ }
 {
     let done = report_end(report, &mut out[from..]);
@@ -124,22 +137,22 @@ fn report_last(report: Report, from: usize, out: &mut [u8]) -> usize
 
 // What is left in the buffer, and the end. Answers whether something could not be written.
 fn finish(last: Progress, out: &mut [u8]) -> bool
-    requires { ⌜ last .filled ≤ length (now out) ⌝ }
+    requires { ⌜ (last .filled ≤ length (now out)) × (longestEnd ≤ length (now out)) ⌝ }
 {
     if last.write_failed {
         return true;
     }
-    let room = make_room(last.filled, END_TEXT, out);
+    let filled = last.filled;
+    if last.read_failed {
+        io::write_all(2, b"ttclines: standard input cannot be read\n");
+        return !io::write_all(1, &out[..filled]);
+    }
+    let room = make_room(filled, LONGEST_END, out);
     if room.failed {
         return true;
     }
-    let from = room.filled;
-    if last.read_failed {
-        io::write_all(2, b"ttclines: standard input cannot be read\n");
-        return !io::write_all(1, &out[..from]);
-    }
-    let filled = report_last(last.report, from, out);
-    !io::write_all(1, &out[..filled])
+    let all = report_last(last.report, room.filled, out);
+    !io::write_all(1, &out[..all])
 }
 
 fn main() {

@@ -8,15 +8,6 @@ use Rattle.ttclines.proofs.finish.Tie as tie
 returns : tie.Need-returns
 returns c = search needs
 
-make-room-requires : tie.Need-make-room-requires
-make-room-requires c κs = search needs
-
-same-length : tie.Need-same-length
-same-length c = search needs
-
-returns-2 : tie.Need-returns-2
-returns-2 c = search needs
-
 slice-aggregate-write-all : tie.Need-slice-aggregate-write-all
 slice-aggregate-write-all c = search needs
 
@@ -31,6 +22,15 @@ slice-aggregate-write-all-2 c = sym (length-take-le _ _ (search needs))
 
 write-all-requires-2 : tie.Need-write-all-requires-2
 write-all-requires-2 c κs = search needs
+
+same-length : tie.Need-same-length
+same-length c = search needs
+
+returns-2 : tie.Need-returns-2
+returns-2 c = search needs
+
+make-room-requires : tie.Need-make-room-requires
+make-room-requires c κs = search needs
 
 same-length-2 : tie.Need-same-length-2
 same-length-2 c = search needs
@@ -61,14 +61,14 @@ finish-spec =
     tie.close
     (tie.spec
     returns
-    make-room-requires
-    same-length
-    returns-2
     slice-aggregate-write-all
     write-all-requires
     slice-reshare-prefix-write-all
     slice-aggregate-write-all-2
     write-all-requires-2
+    same-length
+    returns-2
+    make-room-requires
     same-length-2
     returns-3
     report-last-requires

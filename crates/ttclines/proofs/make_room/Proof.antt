@@ -1,4 +1,4 @@
--- `ttclines::make_room` is safe, and leaves no more filled. Assumes nothing.
+-- `ttclines::make_room` is safe, and leaves so much free. Assumes nothing.
 use mathlib.Core.Path.{sym}
 use lib.Seq.{length-take-le}
 use borrow.Author.Needs.{needs}

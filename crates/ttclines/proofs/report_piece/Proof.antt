@@ -1,32 +1,17 @@
 -- `ttclines::report_piece` is safe: what is reported fits the rest of the buffer. Assumes nothing.
 use native.Mathlib.Omega.{arith}
-use Rattle.ttclines.proofs.Fits.{tail-fits}
 use borrow.Author.Needs.{needs}
 use Rattle.ttclines.proofs.report_piece.Statement.{statement}
 use Rattle.ttclines.proofs.report_piece.Tie as tie
 
+mul-make-room : tie.Need-mul-make-room
+mul-make-room c = search needs
+
 make-room-requires : tie.Need-make-room-requires
 make-room-requires c κs = search needs
 
-sub-report-input : tie.Need-sub-report-input
-sub-report-input c = search needs
-
-part-report-input-start : tie.Need-part-report-input-start
-part-report-input-start c = search needs
-
-part-report-input-end : tie.Need-part-report-input-end
-part-report-input-end c = search needs
-
-report-input-requires : tie.Need-report-input-requires
-report-input-requires c κs = search needs
-
-add-t11 : tie.Need-add-t11
-add-t11 c =
-    let start = c .before .before .before .before .before .before .before .before .before .before in
-    let told = c .before .before .before .before .report-input .ensures .1 in
-    let filled = c .before .before .before .before .before .before .make-room in
-    let fits = tail-fits (start .args .out .now) (filled .result .filled) _ (omega (arith, filled .ensures, start .pre)) (told .1) in
-    record { fits = omega (arith, fits, start .good .1 .1 .0 .0) }
+stopped-requires : tie.Need-stopped-requires
+stopped-requires c κs = search needs
 
 same-length : tie.Need-same-length
 same-length c = search needs
@@ -34,15 +19,28 @@ same-length c = search needs
 returns : tie.Need-returns
 returns c = search needs
 
+report-whole-requires : tie.Need-report-whole-requires
+report-whole-requires c κs = search needs
+
+add-t8 : tie.Need-add-t8
+add-t8 c = record { fits = omega (arith, c .before .before .before .before .report-whole .ensures .1, c .before .before .before .before .report-whole .kept .1 .1 .1 .0, c .before .before .before .before .before .before .before .before .before .before .before .good .1 .1 .0 .0) }
+
+same-length-2 : tie.Need-same-length-2
+same-length-2 c = search needs
+
+returns-2 : tie.Need-returns-2
+returns-2 c = search needs
+
 pub report-piece-spec : {M : Type 1} → statement M
 report-piece-spec =
     tie.close
     (tie.spec
+    mul-make-room
     make-room-requires
-    sub-report-input
-    part-report-input-start
-    part-report-input-end
-    report-input-requires
-    add-t11
+    stopped-requires
     same-length
-    returns)
+    returns
+    report-whole-requires
+    add-t8
+    same-length-2
+    returns-2)
