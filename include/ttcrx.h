@@ -6,8 +6,8 @@
  * Every function takes every value of its arguments. Each answer begins with the number of refusal
  * of document 01, the customer's scope paper: 0 is success; else every other field of the answer is
  * 0, but for a state that was given, which comes back as it was, and no byte of a lent buffer was
- * written. ttcrx_well_formed refuses nothing and answers a plain number, and the functions on reports
- * refuse nothing and answer a report.
+ * written. ttcrx_well_formed and the functions on reports refuse nothing, and their answers have no
+ * such number.
  *
  * A function that is lent characters or a buffer takes a pointer and a length in bytes. What the
  * caller must ensure: the pointer is valid for that length, for writing too where it is not const,
@@ -173,8 +173,8 @@ typedef struct ttcrx_write_answer {
 
 /* The characters of a line so far, as far as they matter. */
 typedef struct ttcrx_line_part {
-    uint8_t count;          /* how many they are; 12 for more than 11 */
-    uint8_t characters[11]; /* the characters; 0 beyond, and where there are more than 11 */
+    uint8_t count;          /* how many they are; 12 for more than 11 (a larger one is taken as 12) */
+    uint8_t characters[11]; /* the characters; those beyond the count do not matter */
 } ttcrx_line_part;
 
 /* What a report of stored lines keeps between two pieces of input. */
@@ -273,22 +273,29 @@ ttcrx_clock_answer ttcrx_receive_long(ttcrx_receiver receiver, uint64_t number);
  */
 ttcrx_report ttcrx_report_start(void);
 
+/* Room for the text of any line, and room that is always enough for the end. */
+#define TTCRX_LONGEST_LINE 34
+#define TTCRX_LONGEST_END 65
+
 /*
  * Reports the lines that end in a piece of the input, each as ttclines prints it: the line's number,
- * then verdict, corrected flag and word of its frame, or '!' and the refusal. It works until the
- * piece is used up or fewer than 34 bytes of the buffer are free; so a buffer of under 34 bytes uses
- * no input and writes nothing. A frame on a receiver that is not well formed is refused by 2. A word
+ * then verdict, corrected flag and word as the clock of its last bit shows them, or '!' and the
+ * refusal: 10, 11 or 12 of the line, or 2 for a frame on a receiver that is not well formed. A word
  * has 2 digits in a line of 4 characters and 8 in one of 11, also if the receiver given held bits of
- * another frame, so that the line's last bit finishes that one, or none (verdict 0). How the input is
- * cut into pieces does not show in the text.
+ * another frame, so that the line's last bit finishes that one, or none (verdict 0).
+ *
+ * It works until the piece is used up or fewer than TTCRX_LONGEST_LINE bytes of the buffer are free;
+ * a smaller buffer uses no input and writes nothing. Input that was not used is to be given again, at
+ * the front of the next piece. How the input is cut into pieces does not show in the text.
  */
 ttcrx_reported ttcrx_report_input(ttcrx_report report, const uint8_t *input, size_t input_length,
                                   uint8_t *buffer, size_t buffer_length);
 
 /*
- * At the end of the input: reports a last line without line feed, if it has any character, and
- * writes the line of the counts, "end ..". A buffer of under 65 bytes: nothing is written, and the
- * report stays. Uses no input.
+ * At the end of the input: reports a last line without line feed, if it has any character, as
+ * ttcrx_report_input does; then writes the line "end", single errors, double errors, event count and
+ * bunch count of the receiver. With a buffer of under TTCRX_LONGEST_END bytes nothing is written, and
+ * the report stays. Uses no input.
  */
 ttcrx_reported ttcrx_report_end(ttcrx_report report, uint8_t *buffer, size_t buffer_length);
 

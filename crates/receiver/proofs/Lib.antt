@@ -6,3 +6,4 @@ pub mod AtOnce
 mod BusSequence
 mod Advance
 pub mod Laws
+pub mod WholeFrameLaw

@@ -1,16 +1,21 @@
 -- Document 01, "Frames on channel B" and "One clock": a whole frame sent to a receiver, one bit a clock, without triggers.
-use Prim.Native.Nat.{ℕ, zero, suc, _/_, _%_}
-use mathlib.Core.Bool.{cond}
+use Prim.Native.Nat.{ℕ, zero, suc, _+_, _/_, _%_}
+use mathlib.Core.Path.{_≡_}
+use mathlib.Core.Logic.{_≢_}
+use mathlib.Core.Bool.{true, cond}
 use mathlib.Core.List.{List, [], _∷_, _++_}
 use Rattle.frame.specs.declared.Kind.{Kind}
 use Rattle.frame.specs.Numbers.{frameBits, isFrame}
 use Rattle.receiver_state.specs.declared.Core.{Core}
 use Rattle.receiver_state.specs.declared.Receiver.{Receiver}
-use Rattle.receiver_state.specs.State.{counters, noSequence, withCounters, withSequence}
+use Rattle.receiver_state.specs.State.{counters, noSequence, nothingHeld, withCounters, withSequence}
 use Rattle.receiver_state.specs.WellFormed.{wellFormed}
 use Rattle.fate.specs.declared.Clocked.{Clocked}
+use Rattle.fate.specs.Fate.{columnsOf}
+use Rattle.fate.specs.Laws.{finishedBy, GoodTables}
 use Rattle.receiver.specs.declared.ClockAnswer.{ClockAnswer}
-use Rattle.receiver.specs.Clock.{noOutputs, refusedClock, clockAnswer}
+use Rattle.receiver.specs.TakeBit.{Waits}
+use Rattle.receiver.specs.Clock.{noOutputs, clockedAnswer, refusedClock, clockAnswer}
 
 -- the n low bits of a number, "first bit sent = most significant"
 unfoldable pub bitsOf : ℕ → ℕ → List ℕ
@@ -27,7 +32,8 @@ clocksAnswer columns before (bit ∷ bits) = clocksAnswer columns (clockAnswer c
 abbrev pub noClock : Receiver → ClockAnswer
 noClock r = record { refusal = 0; receiver = r; outputs = noOutputs }
 
--- refusal 2, "state not well formed", "first"; 12, "start, format or leading bits wrong for the length"; else the answer of the frame's last clock
+-- refusal 2, "state not well formed", as for a clock; then 12, "start, format or leading bits wrong for the length"; else the answer of the frame's
+-- last clock
 unfoldable pub receiveAnswer : (Kind → List ℕ) → Receiver → Kind → ℕ → ClockAnswer
 receiveAnswer columns r kind number =
     cond (wellFormed r)
@@ -35,8 +41,28 @@ receiveAnswer columns r kind number =
     (refusedClock 12 r))
     (refusedClock 2 r)
 
--- three or more clocks without triggers that finish no frame: the bunch counter is at this number, and no sequence is left. The code uses it for the
--- clocks of a whole frame on a receiver that waits.
+-- ---- on a receiver that waits
+
+-- three or more clocks without triggers that finish no frame: the bunch counter is at this number, and no sequence is left
 abbrev pub stillClocked : ℕ → Core → Clocked
 stillClocked bunch core =
     record { core = withSequence noSequence (withCounters (counters bunch (core .counters .event)) core); outputs = noOutputs }
+
+-- the frame that is sent is the one that finishes, with its fate; and the receiver then waits again. Proved in proofs/WholeFrameLaw.antt.
+pub record WholeFrameLaw (columns : Kind → List ℕ) : Type 0 where
+  pub has-its-fate : (r : Receiver) (kind : Kind) (number : ℕ) → wellFormed r ≡ true → Waits r → isFrame kind number ≡ true
+      → receiveAnswer columns r kind number
+      ≡ clockedAnswer nothingHeld (finishedBy columns kind number (stillClocked ((r .core .counters .bunch + frameBits kind) % 4096) (r .core)))
+  pub finishes : (r : Receiver) (kind : Kind) (number : ℕ) → wellFormed r ≡ true → Waits r → isFrame kind number ≡ true
+      → receiveAnswer columns r kind number .outputs .verdict ≢ 0
+  pub waits-again : (r : Receiver) (kind : Kind) (number : ℕ) → wellFormed r ≡ true → Waits r → isFrame kind number ≡ true
+      → Waits (receiveAnswer columns r kind number .receiver)
+  -- waiting or not, refused or not
+  pub stays-well-formed : (r : Receiver) (kind : Kind) (number : ℕ) → wellFormed r ≡ true → wellFormed (receiveAnswer columns r kind number .receiver) ≡ true
+
+abbrev pub WholeFrameTheorem : Type 0
+WholeFrameTheorem = (columns : Kind → List ℕ) → GoodTables columns → WholeFrameLaw columns
+
+-- document 01's own columns
+abbrev pub ReceiverWholeFrames : Type 0
+ReceiverWholeFrames = WholeFrameLaw columnsOf
