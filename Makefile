@@ -17,7 +17,7 @@ library:
 	rt check ttclines
 	rt staticlib ttcrx
 
-# What a printed line says, in words: for each refusal and verdict of document 01, and for the end.
+# What a printed line says, in words: for each refusal of a line, each verdict, and the end.
 IN_WORDS = \
 	-e 's/^[0-9]+ ! 10$$/refused: not 4 or 11 characters/' \
 	-e 's/^[0-9]+ ! 11$$/refused: a character is no hexadecimal digit/' \

@@ -69,8 +69,8 @@ static void check_whole_frames(void)
 #define ROOM 400
 
 /* The least buffers that take a line, and a last line with the line of the counts. */
-#define LINE_ROOM 34
-#define END_ROOM 65
+#define LINE_ROOM TTCRX_LONGEST_LINE
+#define END_ROOM TTCRX_LONGEST_END
 
 /* What a buffer holds before it is lent: no byte of any text, and neighbours differ. */
 static uint8_t pattern(size_t place)

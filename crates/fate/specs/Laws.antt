@@ -1,4 +1,4 @@
--- What holds of every finished frame, over the columns of each kind. Proved in proofs/Laws.antt.
+-- Document 01, "Fate of a finished frame": what holds of every finished frame, over the columns of each kind. Proved in proofs/Laws.antt.
 use Prim.Native.Nat.{ℕ}
 use mathlib.Core.Path.{_≡_}
 use mathlib.Core.Logic.{_≢_, _↔_}

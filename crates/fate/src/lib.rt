@@ -44,8 +44,8 @@ pub struct Row {
     pub core: Core,
 }
 
-// The frame number decoded, with document 01's columns. The clock tested start and format bit by bit,
-// so nothing is refused here.
+// The frame number decoded, with document 01's columns. Start and format were tested before, bit by
+// bit or at once, so nothing is refused here.
 fn decode_finished(kind: Kind, number: u64) -> Answer
     ensures { λ r. ⌜ r ≡ finishedAnswer columnsOf kind number ⌝ }
 {

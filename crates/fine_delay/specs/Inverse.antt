@@ -1,4 +1,4 @@
--- Settings and bytes are inverse on 0..239. Proved in proofs/Inverse.antt.
+-- Document 01, "Registers": settings and bytes are inverse on 0..239. Proved in proofs/Inverse.antt.
 use Prim.Native.Nat.{ℕ, _<_}
 use mathlib.Core.Path.{_≡_}
 use Rattle.fine_delay.specs.Delay.{settingToByte, byteToSetting}

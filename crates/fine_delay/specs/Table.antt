@@ -1,4 +1,4 @@
--- The rule of the base's table of 240 bytes: the byte at each place is that of the setting. The table is the constant of src/lib.rt.
+-- Document 01, "Registers": the rule of the table of 240 bytes: the byte at each place is that of the setting. The table is the constant of src/lib.rt.
 use Prim.Native.Nat.{ℕ}
 use mathlib.Core.Path.{_≡_}
 use mathlib.Core.Bool.{true}

@@ -1,4 +1,4 @@
--- What decoding answers to a frame that was encoded, clean or damaged, and conversely; over both kinds and any good columns.
+-- Document 01, "Frames on channel B": what decoding answers to a frame that was encoded, clean or damaged, and conversely; over both kinds and any good columns.
 -- Proved in proofs/Frames.antt from the facts of the code.
 use Prim.Native.Nat.{ℕ, _+_, _/_, _%_, _^_, _<_}
 use mathlib.Core.Path.{_≡_}

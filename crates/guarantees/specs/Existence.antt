@@ -1,4 +1,4 @@
--- Lists such as Demand3.antt speaks of exist, for every frame and every choice of triggers and accesses. Proved in proofs/Existence.antt.
+-- Document 01, "Demand 3, over lists of calls": lists such as Demand3.antt speaks of exist, for every frame and every choice of triggers and accesses. Proved in proofs/Existence.antt.
 use Prim.Native.Nat.{ℕ}
 use mathlib.Core.Path.{_≡_}
 use mathlib.Core.Bool.{true, cond}

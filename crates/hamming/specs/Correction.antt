@@ -1,4 +1,4 @@
--- What the code corrects, over any good columns: every answer about damaged frames depends on this. Proved in proofs/Correction.antt.
+-- Document 01, "Frames on channel B": what the code corrects, over any good columns: every answer about damaged frames depends on this. Proved in proofs/Correction.antt.
 -- It is a code with columns of odd weight (Hsiao): it corrects one wrong bit and detects two.
 use Prim.Native.Nat.{ℕ, _%_, _^_, _≤_, _<_}
 use mathlib.Core.Path.{_≡_}

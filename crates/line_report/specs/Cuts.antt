@@ -109,7 +109,7 @@ CutsTheorem = (columns : Kind → List ℕ) → Cuts columns
 abbrev pub ReportCuts : Type 0
 ReportCuts = Cuts columnsOf
 
--- and one is as long: line 18446744073709551615 with the frame 100150235AD, whose word has 8 digits
+-- `longestLine` is reached, by line 18446744073709551615 with the frame 100150235AD, whose word has 8 digits. Proved in proofs/Longest.antt.
 abbrev pub LongestReached : Type 0
 LongestReached =
     let part = linePart 11 (49 ∷ 48 ∷ 48 ∷ 49 ∷ 53 ∷ 48 ∷ 50 ∷ 51 ∷ 53 ∷ 65 ∷ 68 ∷ []) in

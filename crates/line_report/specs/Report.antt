@@ -1,5 +1,5 @@
--- Document 01, "Stored lines", for an input that comes in pieces: the report's state, one byte of input, a piece, and the end of input. `Report`, `LinePart` and `Reported`
--- are structs of src/lib.rt.
+-- Document 01, "Stored lines", for an input that comes in pieces: the report's state, one byte of input, a piece, and the end of input.
+-- `Report`, `LinePart` and `Reported` are structs of src/lib.rt.
 use Prim.Native.Nat.{ℕ, suc, _+_, _-_}
 use mathlib.Core.Bool.{cond}
 use mathlib.Core.List.{List, [], _∷_, _++_}
@@ -7,7 +7,6 @@ use lib.Dec.{eqb, ltb}
 use lib.ListN.{length, take, drop, set}
 use Rattle.frame.specs.declared.Kind.{Kind}
 use Rattle.receiver_state.specs.declared.Receiver.{Receiver}
-use Rattle.receiver.specs.declared.ClockAnswer.{ClockAnswer}
 use Rattle.stored_line.specs.declared.StoredLine.{StoredLine}
 use Rattle.stored_line.specs.declared.StoredLine.the-variants.{Refused}
 use Rattle.stored_line.specs.Read.{readLine}

@@ -1,4 +1,4 @@
--- One turn of `report_input` over a piece of input: what was done, and what is left to be done behind it. Only private contracts cite it.
+-- For document 01, "Stored lines": one turn of `report_input` over a piece of input: what was done, and what is left to be done behind it. Only private contracts cite it.
 use Prim.Native.Nat.{ℕ, _+_, _-_, _≤_, _<_}
 use mathlib.Core.Path.{_≡_}
 use mathlib.Core.List.{List}

@@ -1,4 +1,4 @@
--- A text stored in a buffer from a place on. Only private contracts cite it.
+-- For document 01, "Stored lines": a text stored in a buffer from a place on. Only private contracts cite it.
 use Prim.Native.Nat.{ℕ, _+_}
 use mathlib.Core.Path.{_≡_}
 use mathlib.Core.List.{List}

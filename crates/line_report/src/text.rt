@@ -1,7 +1,6 @@
 // Document 01, "Stored lines": the text of a line's report, and of the end. Each function stores its
 // text from a place of the buffer on, where there is room for it, and answers the place behind it.
-ghost use mathlib.Core.Path.{_≡_};
-ghost use mathlib.Core.List.{[], _∷_, _++_};
+ghost use mathlib.Core.List.{[], _∷_};
 ghost use Prim.Native.Nat.{_+_, _≤_, _<_};
 ghost use lib.ListN.{length};
 ghost use Rattle.line_report.specs.Text.{decimal, wordText, fateText, refusalText, answerText, lineText, countsText, endText};

@@ -1,4 +1,4 @@
--- What holds of every clock, over the columns of each kind of frame. Proved in proofs/Laws.antt.
+-- Document 01, "One clock": what holds of every clock, over the columns of each kind of frame. Proved in proofs/Laws.antt.
 use Prim.Native.Nat.{ℕ, _+_, _-_, _*_, _/_, _%_, _^_, _<_, _≤_}
 use mathlib.Core.Path.{_≡_}
 use mathlib.Core.Logic.{_≢_, _⊎_, _↔_}

@@ -143,6 +143,7 @@ fn receive_bits(receiver: Receiver, count: u8, number: u64) -> ClockAnswer
     requires { ⌜ (ReceiverFacts receiver) × (count ≤ 64) ⌝ }
     ensures { λ r. ⌜ r ≡ clocksAnswer columnsOf (noClock receiver) (bitsOf count number) ⌝ }
 {
+    // No clock yet: number 0, the state as given, and no outputs.
     let mut answer = refuse_clock(0, receiver);
     let mut left = count;
     while left > 0 {

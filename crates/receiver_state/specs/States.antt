@@ -1,4 +1,4 @@
--- What holds of well-formed and of fresh states. Proved in proofs/States.antt.
+-- Document 01, "Well formed" and "Registers" (fresh): what holds of such states. Proved in proofs/States.antt, `HeldLaw` in proofs/HeldBits.antt.
 use Prim.Native.Nat.{ℕ, _/_, _-_, _^_, _<_, _≤_}
 use mathlib.Core.Path.{_≡_}
 use mathlib.Core.Logic.{_⊎_, _↔_}

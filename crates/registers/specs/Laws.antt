@@ -1,4 +1,4 @@
--- What holds of every register read and every register write. Proved in proofs/Laws.antt.
+-- Document 01, "Registers": what holds of every register read and every register write. Proved in proofs/Laws.antt.
 use Prim.Native.Nat.{ℕ, _+_, _*_, _%_, _^_, _<_, _≤_}
 use mathlib.Core.Path.{_≡_}
 use mathlib.Core.Logic.{_≢_, _⊎_}

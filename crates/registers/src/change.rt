@@ -1,4 +1,4 @@
-// What a write that is not refused leaves of the core.
+// Document 01, "Registers": what a write that is not refused leaves of the core.
 ghost use mathlib.Core.Path.{_≡_};
 ghost use Rattle.registers.specs.Map.{setConfig2, setConfig3, clearSingle, clearDouble, clearBunch, clearEvent, written};
 use fate::store_byte;

@@ -1,4 +1,4 @@
-// The map: which numbers are registers, which may be written, and what each holds.
+// Document 01, "Registers": which numbers are registers, which may be written, and what each holds.
 ghost use mathlib.Core.Path.{_≡_};
 ghost use Prim.Native.Nat.{_≤_};
 ghost use Rattle.registers.specs.Map.{inMap, registerByte, readOnly, configWrong};

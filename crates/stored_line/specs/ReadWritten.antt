@@ -1,4 +1,4 @@
--- Reading a written line gives the number back. Proved in proofs/ReadWritten.antt.
+-- Document 01, "Stored lines": reading a written line gives the number back. Proved in proofs/ReadWritten.antt.
 use Prim.Native.Nat.{ℕ, _≤_}
 use mathlib.Core.Path.{_≡_}
 use mathlib.Core.Bool.{true}

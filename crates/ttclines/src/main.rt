@@ -1,6 +1,6 @@
 // Document 01, "Stored lines": the program `ttclines`. It reads standard input, hands each piece to
-// `line_report`, and writes what that reports. The contracts say that no byte read is lost: each
-// piece is used up.
+// `line_report`, and writes what that reports. The contract of `report_whole` says that one call uses
+// up the piece that it is given.
 ghost use mathlib.Core.Path.{_≡_};
 ghost use Prim.Native.Nat.{_+_, _*_, _≤_};
 ghost use lib.ListN.{length};
@@ -13,8 +13,8 @@ use line_report::report_end;
 use line_report::report_input;
 use line_report::start_report;
 
-// What is kept between two reads: the report, how much of the output buffer is filled, and whether
-// the input may go on.
+// What is kept between two reads: the report, how much of the output buffer is filled, whether the
+// input may go on, and what failed.
 pub struct Progress {
     pub report: Report,
     pub filled: usize,

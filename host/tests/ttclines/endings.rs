@@ -39,6 +39,7 @@ fn a_closed_output() {
     for input in [b"".to_vec(), b"004F\n".to_vec(), input()] {
         let ended = redirected(">&-", &input);
         assert!(ended.output.is_empty());
+        assert!(!ended.errors.is_empty(), "nothing on standard error");
     }
 }
 
@@ -47,6 +48,7 @@ fn a_full_output() {
     for input in [b"".to_vec(), b"004F\n".to_vec(), input()] {
         let ended = redirected(">/dev/full", &input);
         assert!(ended.output.is_empty());
+        assert!(!ended.errors.is_empty(), "nothing on standard error");
     }
 }
 
