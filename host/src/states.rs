@@ -74,6 +74,18 @@ pub fn well_formed(random: &mut Random) -> Receiver {
     }
 }
 
+/// A well-formed state that holds so many bits, the second of them the format.
+pub fn holding(random: &mut Random, count: u8, format: u64) -> Receiver {
+    let mut state = well_formed(random);
+    let behind = random.below(1 << (count - 1)) >> 1;
+    let bits = match count {
+        1 => 0,
+        _ => format << (count - 2) | behind,
+    };
+    state.held = Held { count, bits };
+    state
+}
+
 /// Any values in all fields, small ones among them.
 pub fn garbage(random: &mut Random) -> Receiver {
     let mut byte = || random.any_length() as u8;

@@ -262,3 +262,15 @@ impl Traffic {
         assert_seen(&[&self.sent, &self.paces]);
     }
 }
+
+/// Numbers at the edges of both kinds of frame, right or not.
+pub fn edge_numbers() -> Vec<u64> {
+    let mut numbers = vec![0, u64::MAX, u64::MAX - 1];
+    for place in 0..64 {
+        let power = 1u64 << place;
+        numbers.extend([power - 1, power, power + 1]);
+        numbers.extend([1 << 40 | power, (1 << 40 | power) - 1, 1 << 14 ^ power]);
+        numbers.extend([((1 << 41) - 1) ^ power, 0x3FFF ^ power]);
+    }
+    numbers
+}

@@ -4,6 +4,7 @@ use ttcrx_host::cases::Cases;
 use ttcrx_host::ffi::{Line, Written};
 use ttcrx_host::model::{self, Kind};
 use ttcrx_host::random::Random;
+use ttcrx_host::traffic::edge_numbers;
 use ttcrx_host::{answer, ttcrx};
 
 const DIGITS: &[u8] = b"0123456789ABCDEFabcdef";
@@ -211,18 +212,6 @@ fn same_write_all_lengths(cases: &mut Cases, writer: &Writer, number: u64, rando
     for length in 0..=16 {
         same_write(cases, writer, number, length, random);
     }
-}
-
-/// Numbers at the edges of both kinds, right or not.
-fn edge_numbers() -> Vec<u64> {
-    let mut numbers = vec![0, u64::MAX, u64::MAX - 1];
-    for place in 0..64 {
-        let power = 1u64 << place;
-        numbers.extend([power - 1, power, power + 1]);
-        numbers.extend([1 << 40 | power, (1 << 40 | power) - 1, 1 << 14 ^ power]);
-        numbers.extend([((1 << 41) - 1) ^ power, 0x3FFF ^ power]);
-    }
-    numbers
 }
 
 #[test]

@@ -37,13 +37,7 @@ fn every_number_of_held_bits() {
     let longs = (1..=41).map(|count| (count, 1u64));
     for (count, format) in shorts.chain(longs) {
         for _ in 0..2_000 {
-            let mut state = states::well_formed(&mut random);
-            let behind = random.below(1 << (count - 1)) >> 1;
-            let bits = match count {
-                1 => 0,
-                _ => format << (count - 2) | behind,
-            };
-            state.held = Held { count, bits };
+            let state = states::holding(&mut random, count, format);
             for (trigger, data) in BITS {
                 let library = compare::clock(&mut cases, state, trigger, data);
                 cases.same(state, library.refusal, 0);

@@ -80,13 +80,7 @@ fn every_number_of_held_bits() {
     for (whole, format) in [(16, 0), (42, 1u64)] {
         for count in 1..whole {
             for _ in 0..200 {
-                let mut state = states::well_formed(&mut random);
-                let behind = random.below(1 << (count - 1)) >> 1;
-                let bits = match count {
-                    1 => 0,
-                    _ => format << (count - 2) | behind,
-                };
-                state.held = Held { count, bits };
+                let state = states::holding(&mut random, count, format);
                 let frame = any_frame(&mut random, &EVERY_KIND);
                 let answer = same(&mut cases, kind_of(frame), state, frame.number);
                 cases.same((state, frame), answer.refusal, 0);
@@ -128,25 +122,13 @@ fn all_short_numbers() {
     cases.at_least((1 << 16) + 3 * (1 << 14));
 }
 
-/// Numbers at the edges of both kinds, right or not.
-fn edge_numbers() -> Vec<u64> {
-    let mut numbers = vec![0, u64::MAX, u64::MAX - 1];
-    for place in 0..64 {
-        let power = 1u64 << place;
-        numbers.extend([power - 1, power, power + 1]);
-        numbers.extend([1 << 40 | power, (1 << 40 | power) - 1, 1 << 14 ^ power]);
-        numbers.extend([((1 << 41) - 1) ^ power, 0x3FFF ^ power]);
-    }
-    numbers
-}
-
 /// Refusal 12 exactly where the number is no frame of the kind.
 #[test]
 fn numbers_that_are_no_frames() {
     let mut cases = Cases::of("whole frames of edge numbers");
     let mut random = Random::new(303);
     let far: Vec<u64> = (0..20_000).map(|_| random.any_length()).collect();
-    for number in edge_numbers().into_iter().chain(far) {
+    for number in traffic::edge_numbers().into_iter().chain(far) {
         let state = states::well_formed(&mut random);
         for kind in KINDS {
             let answer = same(&mut cases, kind, state, number);
