@@ -1,39 +1,33 @@
 -- A whole frame on a receiver that waits has its fate. Assumes nothing.
 use mathlib.Core.Path.{_≡_, refl, sym, subst}
-use mathlib.Core.Logic.{_≢_}
 use mathlib.Core.Bool.{true}
 use mathlib.Core.List.{List, [], _∷_}
-use Prim.Native.Nat.{ℕ, _+_, _%_}
+use Prim.Native.Nat.{ℕ}
 use Rattle.laws.proofs.Rules.{picked}
 use Rattle.frame.specs.declared.Kind.{Kind}
 use Rattle.frame.specs.Numbers.{frameBits, isFrame}
 use Rattle.receiver_state.specs.declared.Receiver.{Receiver}
-use Rattle.receiver_state.specs.State.{nothingHeld}
 use Rattle.receiver_state.specs.WellFormed.{wellFormed}
 use Rattle.receiver_state.proofs.WellFormed.{receiver-facts}
 use Rattle.fate.specs.Fate.{columnsOf}
-use Rattle.fate.specs.Laws.{finishedBy, GoodTables}
+use Rattle.fate.specs.Laws.{GoodTables}
 use Rattle.fate.proofs.Laws.{fate-theorem, tables-good}
 use Rattle.receiver.specs.declared.ClockAnswer.{ClockAnswer}
 use Rattle.receiver.specs.TakeBit.{Waits}
-use Rattle.receiver.specs.Clock.{clockedAnswer, clockAnswer}
-use Rattle.receiver.specs.WholeFrame.{bitsOf, clocksAnswer, noClock, receiveAnswer, stillClocked, WholeFrameLaw, WholeFrameTheorem, ReceiverWholeFrames}
+use Rattle.receiver.specs.Clock.{clockAnswer}
+use Rattle.receiver.specs.WholeFrame.{bitsOf, clocksAnswer, noClock, receiveAnswer, HasItsFate, SomeVerdict, WholeFrameLaw, WholeFrameTheorem, ReceiverWholeFrames}
 use Rattle.receiver.proofs.Bits.{bit-law}
 use Rattle.receiver.proofs.AtOnce.{at-once}
 use Rattle.receiver.proofs.Laws.{clock-theorem}
 
 module _ (columns : Kind → List ℕ) (good : GoodTables columns) where
-  has-its-fate : (r : Receiver) (kind : Kind) (number : ℕ) → wellFormed r ≡ true → Waits r → isFrame kind number ≡ true
-      → receiveAnswer columns r kind number
-      ≡ clockedAnswer nothingHeld (finishedBy columns kind number (stillClocked ((r .core .counters .bunch + frameBits kind) % 4096) (r .core)))
+  has-its-fate : HasItsFate columns
   unfolding receiveAnswer
   has-its-fate r kind number w waits e = rw (w, e) (at-once columns r kind number (receiver-facts r w) (waits .none-held) e)
 
-  finishes : (r : Receiver) (kind : Kind) (number : ℕ) → wellFormed r ≡ true → Waits r → isFrame kind number ≡ true
-      → receiveAnswer columns r kind number .outputs .verdict ≢ 0
+  finishes : SomeVerdict columns
   finishes r kind number w waits e =
-      subst (λ (a : ClockAnswer). a .outputs .verdict ≢ 0) (sym (has-its-fate r kind number w waits e))
-      (fate-theorem columns good .not-zero kind number (stillClocked ((r .core .counters .bunch + frameBits kind) % 4096) (r .core)))
+      rw (has-its-fate r kind number w waits e) (fate-theorem columns good .not-zero kind number _)
 
   waits-again : (r : Receiver) (kind : Kind) (number : ℕ) → wellFormed r ≡ true → Waits r → isFrame kind number ≡ true
       → Waits (receiveAnswer columns r kind number .receiver)

@@ -48,13 +48,23 @@ abbrev pub stillClocked : ℕ → Core → Clocked
 stillClocked bunch core =
     record { core = withSequence noSequence (withCounters (counters bunch (core .counters .event)) core); outputs = noOutputs }
 
--- the frame that is sent is the one that finishes, with its fate; and the receiver then waits again. Proved in proofs/WholeFrameLaw.antt.
-pub record WholeFrameLaw (columns : Kind → List ℕ) : Type 0 where
-  pub has-its-fate : (r : Receiver) (kind : Kind) (number : ℕ) → wellFormed r ≡ true → Waits r → isFrame kind number ≡ true
+module _ (columns : Kind → List ℕ) where
+  -- the frame that is sent is the one that finishes, with its fate
+  abbrev pub HasItsFate : Type 0
+  HasItsFate =
+      (r : Receiver) (kind : Kind) (number : ℕ) → wellFormed r ≡ true → Waits r → isFrame kind number ≡ true
       → receiveAnswer columns r kind number
       ≡ clockedAnswer nothingHeld (finishedBy columns kind number (stillClocked ((r .core .counters .bunch + frameBits kind) % 4096) (r .core)))
-  pub finishes : (r : Receiver) (kind : Kind) (number : ℕ) → wellFormed r ≡ true → Waits r → isFrame kind number ≡ true
+
+  abbrev pub SomeVerdict : Type 0
+  SomeVerdict =
+      (r : Receiver) (kind : Kind) (number : ℕ) → wellFormed r ≡ true → Waits r → isFrame kind number ≡ true
       → receiveAnswer columns r kind number .outputs .verdict ≢ 0
+
+-- and the receiver then waits again. Proved in proofs/WholeFrameLaw.antt.
+pub record WholeFrameLaw (columns : Kind → List ℕ) : Type 0 where
+  pub has-its-fate : HasItsFate columns
+  pub finishes : SomeVerdict columns
   pub waits-again : (r : Receiver) (kind : Kind) (number : ℕ) → wellFormed r ≡ true → Waits r → isFrame kind number ≡ true
       → Waits (receiveAnswer columns r kind number .receiver)
   -- waiting or not, refused or not
