@@ -1,19 +1,19 @@
 /*
  * The C interface of the TTCrx model, libttcrx.a: frames, stored lines, fine delays, the receiver,
- * clock by clock, with register accesses between clocks, or frame by frame; and reports of stored
- * lines.
+ * clock by clock, with register accesses between clocks, frame by frame, or a block of clocks at
+ * once; and reports of stored lines.
  *
  * Every function takes every value of its arguments. Each answer begins with the number of refusal
  * of document 01, the customer's scope paper: 0 is success; else every other field of the answer is
  * 0, but for a state that was given, which comes back as it was, and no byte of a lent buffer was
- * written. ttcrx_well_formed and the functions on reports refuse nothing, and their answers have no
- * such number.
+ * written. ttcrx_well_formed, ttcrx_filled_length and the functions on reports refuse nothing, and
+ * their answers have no such number.
  *
- * A function that is lent characters or a buffer takes a pointer and a length in bytes. What the
- * caller must ensure: the pointer is valid for that length, for writing too where it is not const,
- * and is not null unless the length is 0; the length is at most PTRDIFF_MAX; two regions lent to one
- * call do not overlap; and while the function runs, nothing else writes those bytes, nor reads those
- * of a buffer.
+ * A function that is lent characters, bytes or a buffer takes a pointer and a length in elements. What
+ * the caller must ensure: the pointer is aligned and valid for that length, for writing too where it
+ * is not const, and is not null unless the length is 0; it spans at most PTRDIFF_MAX bytes; a lent
+ * receiver is one element; two regions lent to one call do not overlap; and while the function runs,
+ * nothing else writes those elements, nor reads those that are lent for writing.
  *
  * A frame is a number whose most significant bit is sent first: start bit, format bit, word, check
  * bits, stop bit. A short frame (broadcast) has 16 bits with a word of 8; a long frame
@@ -171,6 +171,12 @@ typedef struct ttcrx_write_answer {
     ttcrx_receiver receiver; /* the state after the write; with a refusal, the state as given */
 } ttcrx_write_answer;
 
+/* The answer of a block. */
+typedef struct ttcrx_block_answer {
+    uint8_t refusal;
+    size_t records; /* how many were written, from the front of the buffer */
+} ttcrx_block_answer;
+
 /* The characters of a line so far, as far as they matter. */
 typedef struct ttcrx_line_part {
     uint8_t count;          /* how many they are; 12 for more than 11 (a larger one is taken as 12) */
@@ -266,6 +272,33 @@ ttcrx_clock_answer ttcrx_receive_short(ttcrx_receiver receiver, uint64_t number)
 
 /* The same for a long frame. */
 ttcrx_clock_answer ttcrx_receive_long(ttcrx_receiver receiver, uint64_t number);
+
+/* The clocks that a block may have, and the numbers of a record. */
+#define TTCRX_BLOCK_CLOCKS 4096
+#define TTCRX_RECORD_NUMBERS 5
+
+/*
+ * The clocks of a whole block on the receiver that is lent: one byte a clock, in order; bit 0 is the
+ * trigger, bit 1 channel B. The receiver becomes the one that these clocks leave, done singly.
+ *
+ * Each clock with a trigger, or with a verdict other than 0, writes a record behind the last, from the
+ * front of the buffer. Its five numbers: the clock's place in the block, from 0; the bunch counter
+ * before the clock; the event counter before it; verdict + 16 * corrected + 32 * trigger + 64 * missed
+ * as the clock shows them; its word. The numbers after the last record stay as they were.
+ *
+ * Refusals, in this order: 2: a state that is not well formed; 15: a block of more than 4096 bytes;
+ * 16: a buffer of fewer than five numbers for each byte of the block; 1: a byte over 3. A refused call
+ * does no clock, and changes neither the receiver nor a number of the buffer. The buffer's length is in
+ * numbers, not in bytes.
+ */
+ttcrx_block_answer ttcrx_run_block(ttcrx_receiver *receiver, const uint8_t *block,
+                                   size_t block_length, uint32_t *buffer, size_t buffer_length);
+
+/*
+ * How many numbers at the front of a buffer of that length so many records are: five for each; or 0
+ * where they are more than the length. Refuses nothing.
+ */
+size_t ttcrx_filled_length(size_t buffer_length, size_t records);
 
 /*
  * A report of stored lines at the beginning of its input: what the program ttclines does, with a

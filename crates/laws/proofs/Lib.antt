@@ -4,3 +4,4 @@ pub mod Table
 pub mod Xor
 pub mod Powers
 pub mod Below
+pub mod Sets

@@ -20,7 +20,8 @@ use Rattle.line_report.specs.Text.{coreEndText}
 use Rattle.line_report.specs.Write.{TextAt}
 use Rattle.line_report.specs.Report.{report, withCharacters, readPart, lineEnded, lineEndPrints, untilFeed, longestLine, Work, work, workOn, filled, filledBy, reportInput, longestEnd, afterLast, lastPrints, endWork, reportEnd}
 use Rattle.line_report.specs.Turn.{placed, finishedFrom, Turned}
-use Rattle.line_report.proofs.Write.{sets-append, then-text, kept-length, stored-front}
+use Rattle.laws.proofs.Sets.{sets-append, sets-front}
+use Rattle.line_report.proofs.Write.{then-text, kept-length}
 use Rattle.line_report.proofs.Bounds.{part-small, line-length, last-length}
 use Rattle.line_report.proofs.Work.{no-room, to-the-end, lineTo, textTo, workBehind, fromFeed, to-the-feed, work-fits}
 
@@ -156,7 +157,7 @@ module _ (columns : Kind → List ℕ) (now : Report) (input buffer : List ℕ) 
       let done = workOn columns (length buffer) now input in
       ap (λ (room : ℕ). placed 0 0 buffer (workOn columns room now input)) (sub-zero (length buffer))
       ∙ ap₂ (λ (u w : ℕ). filled (reported (done .report) u w) (sets buffer 0 (done .text))) (zero-add (done .used)) (zero-add (length (done .text)))
-      ∙ ap (filled (reported (done .report) (done .used) (length (done .text)))) (stored-front (done .text) buffer (work-fits columns (length buffer) now input))
+      ∙ ap (filled (reported (done .report) (done .used) (length (done .text)))) (sets-front (done .text) buffer (work-fits columns (length buffer) now input))
 
   -- after the last one: the input is used up, or there is no room
   pub used-up : (done : Reported) (buffer′ : List ℕ) → length input ≤ done .used → finishedFrom columns done input buffer′ ≡ filled done buffer′
@@ -188,6 +189,6 @@ all-ended columns now ended {buffer} room e s t below =
     let both = then-text (lastPrints columns now) (coreEndText (ended .receiver .core)) s t in
     let text = lastPrints columns now ++ coreEndText (ended .receiver .core) in
     let fits : length text ≤ length buffer = omega (arith, both .next-is, s .next-is, last-length columns now) in
-    ap₂ (λ (w : ℕ) (b : List ℕ). filled (reported ended 0 w) b) (both .next-is ∙ zero-add (length text)) (both .stored ∙ stored-front text buffer fits)
+    ap₂ (λ (w : ℕ) (b : List ℕ). filled (reported ended 0 w) b) (both .next-is ∙ zero-add (length text)) (both .stored ∙ sets-front text buffer fits)
     ∙ ap (λ (r : Report). filledBy (work r 0 (lastPrints columns now ++ coreEndText (r .receiver .core))) buffer) e
     ∙ rw (le-ltb (length buffer) longestEnd room) refl

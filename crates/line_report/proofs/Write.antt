@@ -1,19 +1,12 @@
 -- One text stored behind another. Assumes nothing.
-use mathlib.Core.Path.{_≡_, refl, sym, ap, _∙_}
+use mathlib.Core.Path.{_≡_, sym, ap, _∙_}
 use mathlib.Core.List.{List, [], _∷_, _++_}
-use Prim.Native.Nat.{ℕ, suc, _+_, _≤_, _<_}
-use native.Mathlib.Nat.{add-zero, zero-add, add-suc, suc-add}
+use Prim.Native.Nat.{ℕ, _+_, _≤_, _<_}
 use native.Mathlib.Omega.{arith}
-use lib.ListN.{length, drop, length-append}
-use lib.Seq.{sets, length-sets, sets-eq}
+use lib.ListN.{length, length-append}
+use lib.Seq.{sets, length-sets}
+use Rattle.laws.proofs.Sets.{sets-append}
 use Rattle.line_report.specs.Write.{TextAt}
-
--- stored together or one behind the other
-pub sets-append : (first second before : List ℕ) (at : ℕ) → sets before at (first ++ second) ≡ sets (sets before at first) (at + length first) second
-sets-append [] second before at = ap (λ (n : ℕ). sets before n second) (sym (add-zero at))
-sets-append (c ∷ first) second before at =
-    sets-append first second _ (suc at)
-    ∙ ap (λ (n : ℕ). sets (sets before at (c ∷ first)) n second) (suc-add at (length first) ∙ sym (add-suc at (length first)))
 
 pub then-text : {n₁ n₂ at : ℕ} (first second : List ℕ) {b₀ b₁ b₂ : List ℕ} → TextAt n₁ at first b₀ b₁ → TextAt n₂ n₁ second b₁ b₂
     → TextAt n₂ at (first ++ second) b₀ b₂
@@ -44,8 +37,3 @@ room-then {at} {n} first second h t = omega (arith, length-append first second, 
 -- room for some characters is room for the first
 pub room-one : (at character : ℕ) (rest : List ℕ) {room : ℕ} → at + length (character ∷ rest) ≤ room → at < room
 room-one at character rest h = omega arith
-
--- a text stored at the front, and the bytes beyond it
-pub stored-front : (text buffer : List ℕ) → length text ≤ length buffer → sets buffer 0 text ≡ text ++ drop (length text) buffer
-stored-front text buffer h =
-    sets-eq text buffer 0 (omega arith) ∙ ap (λ (n : ℕ). text ++ drop n buffer) (zero-add (length text))

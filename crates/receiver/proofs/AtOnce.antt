@@ -27,12 +27,13 @@ use Rattle.receiver.specs.declared.Taken.{Taken}
 use Rattle.receiver.specs.declared.Taken.the-variants.{Unfinished, Finished}
 use Rattle.receiver.specs.TakeBit.{takeBit, heldAfter}
 use Rattle.receiver.specs.IdleClock.{countClock, continued, started, busStep, busOf, idleClock}
-use Rattle.receiver.specs.Clock.{noOutputs, applyFrame, clockedAnswer, stepAnswer, clockAnswer}
+use Rattle.receiver.specs.Clock.{noOutputs, clockedAnswer, clockAnswer}
 use Rattle.receiver.specs.Laws.{firstBits, bitAfter}
 use Rattle.receiver.specs.WholeFrame.{bitsOf, clocksAnswer, noClock, stillClocked}
 use Rattle.receiver.proofs.Bits.{bit-law}
 use Rattle.receiver.proofs.Keep.{step-facts}
-use Rattle.receiver.proofs.WholeFrame.{first-bit, step-is-clock}
+use Rattle.receiver.proofs.Unchecked.{step-is-clock, unfinished-step, finished-step}
+use Rattle.receiver.proofs.WholeFrame.{first-bit}
 
 -- ---- clocks without triggers and without a frame
 
@@ -106,15 +107,6 @@ module _ (columns : Kind → List ℕ) (kind : Kind) (number : ℕ) (e : isFrame
   abbrev done : ℕ → ClockAnswer
   done n = clockedAnswer nothingHeld (finishedBy columns kind number (idleClock (quiet n core) 0))
 
-  unfinished-step : (r : Receiver) (bit : ℕ) (held : Held) → takeBit (r .held) bit ≡ Unfinished held → stepAnswer columns r 0 bit ≡ clockedAnswer held (idleClock (r .core) 0)
-  unfolding stepAnswer
-  unfinished-step r bit held t = rw t refl
-
-  finished-step : (r : Receiver) (bit : ℕ) → takeBit (r .held) bit ≡ Finished kind number
-      → stepAnswer columns r 0 bit ≡ clockedAnswer nothingHeld (finishedBy columns kind number (idleClock (r .core) 0))
-  unfolding stepAnswer
-  finished-step r bit t = rw t refl
-
   -- the clock of a bit on a state that is known
   module _ (a : ClockAnswer) (f : ReceiverFacts (a .receiver)) (n bit : ℕ) (small : bit < 2) (r : a .receiver ≡ receiver (quiet n core) (firstBits kind number n))
       (b : bit ≡ bitAfter kind number n) where
@@ -123,20 +115,20 @@ module _ (columns : Kind → List ℕ) (kind : Kind) (number : ℕ) (e : isFrame
 
     last-clock : n + 1 ≡ frameBits kind → clockAnswer columns (a .receiver) 0 bit ≡ done n
     last-clock w =
-        sym (step-is-clock columns (a .receiver) bit f small)
-        ∙ finished-step (a .receiver) bit (taken ∙ bit-law .last-bit kind number n e w)
+        sym (step-is-clock columns (a .receiver) 0 bit f (lit< tt) small)
+        ∙ finished-step columns (a .receiver) 0 bit kind number (taken ∙ bit-law .last-bit kind number n e w)
         ∙ ap (λ (x : Receiver). clockedAnswer nothingHeld (finishedBy columns kind number (idleClock (x .core) 0))) r
 
     next-clock : 1 ≤ n → n + 1 < frameBits kind
         → clockAnswer columns (a .receiver) 0 bit ≡ clockedAnswer (firstBits kind number (n + 1)) (idleClock (quiet n core) 0)
     next-clock h w =
-        sym (step-is-clock columns (a .receiver) bit f small)
-        ∙ unfinished-step (a .receiver) bit (firstBits kind number (n + 1)) (taken ∙ bit-law .next-bit kind number n e h w)
+        sym (step-is-clock columns (a .receiver) 0 bit f (lit< tt) small)
+        ∙ unfinished-step columns (a .receiver) 0 bit (firstBits kind number (n + 1)) (taken ∙ bit-law .next-bit kind number n e h w)
         ∙ ap (λ (x : Receiver). clockedAnswer (firstBits kind number (n + 1)) (idleClock (x .core) 0)) r
 
   clock-facts : (a : ClockAnswer) (bit : ℕ) → ReceiverFacts (a .receiver) → bit < 2 → ReceiverFacts (clockAnswer columns (a .receiver) 0 bit .receiver)
   clock-facts a bit f small =
-      subst (λ (x : ClockAnswer). ReceiverFacts (x .receiver)) (step-is-clock columns (a .receiver) bit f small) (step-facts columns (a .receiver) 0 bit f small)
+      subst (λ (x : ClockAnswer). ReceiverFacts (x .receiver)) (step-is-clock columns (a .receiver) 0 bit f (lit< tt) small) (step-facts columns (a .receiver) 0 bit f small)
 
   place-of : (n left w : ℕ) → n + suc left ≡ w → w - (n + 1) ≡ left
   place-of n left w h = omega arith
@@ -178,8 +170,8 @@ waiting-held r f z =
 module _ (columns : Kind → List ℕ) (r : Receiver) (kind : Kind) (number : ℕ) (f : ReceiverFacts r) (z : r .held .count ≡ 0) (e : isFrame kind number ≡ true) where
   first-clock : clockAnswer columns r 0 0 ≡ clockedAnswer (firstBits kind number 1) (idleClock (r .core) 0)
   first-clock =
-      sym (step-is-clock columns r 0 f (lit< tt))
-      ∙ unfinished-step columns kind number e (r .core) r 0 (holding 1 0) (ap (λ (held : Held). takeBit held 0) (waiting-held r f z) ∙ bit-law .start-bit)
+      sym (step-is-clock columns r 0 0 f (lit< tt) (lit< tt))
+      ∙ unfinished-step columns r 0 0 (holding 1 0) (ap (λ (held : Held). takeBit held 0) (waiting-held r f z) ∙ bit-law .start-bit)
       ∙ ap (λ (bits : ℕ). clockedAnswer (holding 1 bits) (idleClock (r .core) 0)) (sym (leading-zero kind number e))
 
   all-bits : (k : ℕ) → frameBits kind ≡ suc (suc (suc k)) → clocksAnswer columns (noClock r) (bitsOf (suc (suc (suc k))) number) ≡ done columns kind number e (r .core) (suc (suc k))

@@ -33,6 +33,7 @@ use Rattle.fate.specs.Laws.{FateLaws}
 use Rattle.receiver.specs.Laws.{Accepted, ClockLaws, ClockTheorem, ReceiverLaws}
 use Rattle.receiver.proofs.TakeBit.{TakenFacts, taken-facts}
 use Rattle.receiver.proofs.Bits.{bit-law}
+use Rattle.receiver.proofs.Unchecked.{step-is-clock, unfinished-step, finished-step}
 use Rattle.receiver.proofs.Keep.{step-facts}
 use Rattle.receiver.proofs.BusSequence.{idle-shows, idle-left}
 use Rattle.receiver.proofs.Advance.{unmoved-counters, advance}
@@ -123,11 +124,7 @@ module _ (columns : Kind → List ℕ) (fates : FateLaws columns) where
       (λ e. refused _ refl)
 
   accepted : (r : Receiver) (trigger bit : ℕ) → Accepted r trigger bit → clockAnswer columns r trigger bit ≡ stepAnswer columns r trigger bit
-  unfolding clockAnswer
-  accepted r trigger bit (e, t, b) =
-      let h : trigger ≤ 1 = omega arith in
-      let k : bit ≤ 1 = omega arith in
-      rw (e, le-ltb _ _ h, le-ltb _ _ k) refl
+  accepted r trigger bit (e, t, b) = sym (step-is-clock columns r trigger bit (receiver-facts r e) t b)
 
   stepped-zero : (r : Receiver) (trigger bit : ℕ) → stepAnswer columns r trigger bit .refusal ≡ 0
   unfolding stepAnswer
@@ -185,12 +182,10 @@ module _ (columns : Kind → List ℕ) (fates : FateLaws columns) where
       (λ kind number. (λ e. absurd (fates .not-zero kind number (idleClock (r .core) trigger) e), λ f. absurd (f kind number refl))))
 
   no-frame-law : laws.NoFrameLaw columns
-  unfolding stepAnswer
-  no-frame-law r trigger bit held h e = accepted r trigger bit h ∙ rw e refl
+  no-frame-law r trigger bit held h e = accepted r trigger bit h ∙ unfinished-step columns r trigger bit held e
 
   frame-law : laws.FrameLaw columns
-  unfolding stepAnswer
-  frame-law r trigger bit kind number h f = accepted r trigger bit h ∙ rw f refl
+  frame-law r trigger bit kind number h f = accepted r trigger bit h ∙ finished-step columns r trigger bit kind number f
 
   nothing-shown : laws.NothingShown columns
   unfolding idleClock

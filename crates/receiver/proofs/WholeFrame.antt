@@ -4,15 +4,14 @@ use mathlib.Core.List.{List, [], _∷_, _++_}
 use Prim.Native.Nat.{ℕ, zero, suc, _+_, _/_, _%_, _^_, _<_}
 use native.Mathlib.Nat.{div-one}
 use native.Mathlib.Omega.{arith}
-use borrow.Author.Tests.{le-ltb}
+use lib.Dec.{lit<}
 use lib.Pow.{shr-shr}
 use Rattle.frame.specs.declared.Kind.{Kind}
-use Rattle.receiver_state.specs.declared.Receiver.{Receiver}
 use Rattle.receiver_state.specs.WellFormed.{ReceiverFacts}
-use Rattle.receiver_state.proofs.WellFormed.{receiver-ok}
 use Rattle.receiver.specs.declared.ClockAnswer.{ClockAnswer}
 use Rattle.receiver.specs.Clock.{stepAnswer, clockAnswer}
 use Rattle.receiver.specs.WholeFrame.{bitsOf, clocksAnswer}
+use Rattle.receiver.proofs.Unchecked.{step-is-clock}
 
 -- the first bit sent is the most significant of them
 pub first-bit : (n number : ℕ) → bitsOf (suc n) number ≡ number / 2 ^ n % 2 ∷ bitsOf n number
@@ -25,10 +24,6 @@ first-bit (suc n) number =
     one-first : (k : ℕ) → 1 + k ≡ suc k
     one-first k = omega arith
 
-pub step-is-clock : (columns : Kind → List ℕ) (r : Receiver) (bit : ℕ) → ReceiverFacts r → bit < 2 → stepAnswer columns r 0 bit ≡ clockAnswer columns r 0 bit
-unfolding clockAnswer
-step-is-clock columns r bit f h = rw (receiver-ok r f, le-ltb 1 bit (omega arith)) refl
-
 -- one clock more, with the first of the bits left
 pub clock-more : (columns : Kind → List ℕ) (before after : ClockAnswer) (n number bit : ℕ) → ReceiverFacts (before .receiver)
     → bit ≡ number / 2 ^ n % 2 → after ≡ stepAnswer columns (before .receiver) 0 bit
@@ -37,5 +32,5 @@ unfolding clocksAnswer
 clock-more columns before after n number bit f b e =
     let small : bit < 2 = omega arith in
     let done : after ≡ clockAnswer columns (before .receiver) 0 (number / 2 ^ n % 2) =
-    e ∙ step-is-clock columns (before .receiver) bit f small ∙ ap (clockAnswer columns (before .receiver) 0) b in
+    e ∙ step-is-clock columns (before .receiver) 0 bit f (lit< tt) small ∙ ap (clockAnswer columns (before .receiver) 0) b in
     ap (λ (answer : ClockAnswer). clocksAnswer columns answer (bitsOf n number)) done ∙ ap (clocksAnswer columns before) (sym (first-bit n number))

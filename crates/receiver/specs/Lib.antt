@@ -2,5 +2,7 @@ pub mod TakeBit
 pub mod IdleClock
 pub mod Clock
 pub mod WholeFrame
+pub mod Block
+pub mod Run
 pub mod StepLaws
 pub mod Laws

@@ -1,5 +1,5 @@
 // Document 01, "Fate of a finished frame" and "One clock": one clock of a receiver, and the clocks of
-// a whole frame.
+// a whole frame. Document 02, Q-3: the clocks of a block.
 //
 // The state goes by value, in and out: see `receiver_state`.
 ghost use mathlib.Core.Path.{_≡_};
@@ -25,6 +25,7 @@ use receiver_state::Receiver;
 use receiver_state::Sequence;
 use receiver_state::well_formed;
 
+pub mod block;
 mod channel_b;
 mod idle;
 
@@ -47,6 +48,29 @@ pub struct Bus {
     pub strobe: u8,
     pub number: u16,
     pub missed: u8,
+}
+
+// What a block answers: the number of refusal, the state, and how many records were written.
+#[repr(C)]
+pub struct BlockAnswer {
+    pub refusal: u8,
+    pub receiver: Receiver,
+    pub records: usize,
+}
+
+// The record of one clock of a block.
+pub struct TraceRecord {
+    pub place: u32,
+    pub bunch: u32,
+    pub event: u32,
+    pub code: u32,
+    pub word: u32,
+}
+
+// A block in the course of its clocks: the receiver, and the records written so far.
+pub struct Running {
+    pub receiver: Receiver,
+    pub records: usize,
 }
 
 fn no_outputs() -> Outputs

@@ -1,0 +1,72 @@
+-- `receiver::block::no_byte_over_3` meets its contract. The invariant: the sum so far is 0, and the bytes to come pass, exactly if all bytes pass.
+-- Assumes nothing.
+use mathlib.Core.Path.{_≡_, refl, sym, ap, ap₂, _∙_}
+use mathlib.Core.Bool.{Bool, true, false, _&&_}
+use mathlib.Core.List.{List}
+use Prim.Native.Nat.{ℕ, suc, _+_, _*_, _-_, _/_, _≤_, _<_}
+use native.Mathlib.Numerals.{add-one}
+use native.Mathlib.Omega.{arith}
+use lib.Dec.{eqb, leb}
+use lib.ListN.{length, getD, drop, drop-of-length-le}
+use lib.Seq.{drop-cons}
+use Rattle.laws.specs.Tests.{every}
+use Rattle.laws.specs.Table.{testsFrom, everyEntry}
+use Rattle.receiver.specs.Block.{blockClocks, noByteOver3}
+use Rattle.receiver.proofs.InRange.{passesFrom, at-first, at-last, next-byte, and-true}
+use borrow.Author.Needs.{needs}
+use Rattle.receiver.proofs.block.no_byte_over_3.Statement.{statement}
+use Rattle.receiver.proofs.block.no_byte_over_3.Tie as tie
+
+abbrev Inv-loop : tie.InvT-loop
+Inv-loop block over₀ i₀ over i = (i ≤ length block) × (length block ≤ blockClocks) × (over ≤ 63 * i) × ((eqb over 0 && passesFrom block i) ≡ noByteOver3 block)
+
+abbrev μ-loop : tie.MeasureT-loop
+μ-loop block over₀ i₀ over i = length block - i
+
+loop-holds : tie.Need-loop-holds Inv-loop μ-loop
+loop-holds c = (search needs, c .pre, search needs, at-first _)
+
+shared-slice-read-over : tie.Need-shared-slice-read-over Inv-loop μ-loop
+shared-slice-read-over c = search needs
+
+cast-over : tie.Need-cast-over Inv-loop μ-loop
+cast-over c = omega (arith, c .shared-slice-known .given (c .before .before .loop .i))
+
+add-over : tie.Need-add-over Inv-loop μ-loop
+add-over c = omega (arith, c .shared-slice-known .given (c .before .before .loop .i))
+
+add-i : tie.Need-add-i Inv-loop μ-loop
+add-i c = search needs
+
+loop-less : tie.Need-loop-less Inv-loop μ-loop
+loop-less c = search needs
+
+loop-again : tie.Need-loop-again Inv-loop μ-loop
+loop-again c =
+    let at = c .before .before .loop in (
+      search needs,
+      at .inv .1,
+      omega (arith, c .shared-slice-known .given (at .i)),
+      next-byte _ (at .over) (at .i) (search needs) ∙ at .inv .3,
+    )
+
+returns : tie.Need-returns Inv-loop μ-loop
+returns c =
+    let at = c .before .loop in
+    let test = ap (λ (p : Bool). eqb (at .over) 0 && p) (at-last (c .before .before .args .block .now) (at .i) (search needs)) in
+    sym (and-true (eqb (at .over) 0)) ∙ sym test ∙ at .inv .3
+
+pub no-byte-over-3-spec : {M : Type 1} → statement M
+no-byte-over-3-spec =
+    tie.close
+    (tie.spec
+    Inv-loop
+    μ-loop
+    loop-holds
+    shared-slice-read-over
+    cast-over
+    add-over
+    add-i
+    loop-less
+    loop-again
+    returns)

@@ -1,0 +1,204 @@
+// Document 02, Q-3: a block of clocks in one call.
+//
+// The state goes by value, as for a single clock. A block is only read, and is lent by `&`; records
+// go to the caller's own buffer, lent by `&mut`. Block and state are checked once, and then no clock
+// checks anything: `run_clock` is the unchecked step, with the frame that finishes, which is rare,
+// apart from the clocks that finish none. So the compiler keeps the state of the loop in registers.
+ghost use mathlib.Core.Path.{_≡_};
+ghost use mathlib.Core.List.{_++_};
+ghost use Prim.Native.Nat.{_+_, _*_, _<_, _≤_};
+ghost use lib.ListN.{length, drop};
+ghost use Rattle.trace_records.specs.Filled.{recordNumbers};
+ghost use Rattle.receiver_state.specs.State.{nothingHeld};
+ghost use Rattle.receiver_state.specs.WellFormed.{CoreFacts, ReceiverFacts};
+ghost use Rattle.fate.specs.Fate.{columnsOf, finishedAnswer, finished};
+ghost use Rattle.receiver.specs.IdleClock.{idleClock};
+ghost use Rattle.receiver.specs.Clock.{clockedAnswer, stepAnswer};
+ghost use Rattle.receiver.specs.Block.{triggerBit, channelBit, traceRecord, numbersOf, blockDone, blockAnswer, blockClocks, noByteOver3, runBlock};
+ghost use Rattle.receiver.specs.Run.{leaves, withRecord, answeredRun, clocksRun, RunsFrom};
+use crate::BlockAnswer;
+use crate::Running;
+use crate::Taken;
+use crate::TraceRecord;
+use crate::channel_b::take_bit;
+use crate::idle::idle_clock;
+use fate::Outputs;
+use fate::finish;
+use frame::Kind;
+use receiver_state::Counters;
+use receiver_state::Held;
+use receiver_state::Receiver;
+use receiver_state::well_formed;
+
+// Whether no byte is over 3. Quotients are summed and tested once, so that the loop has no exit of
+// its own and many bytes are taken at a time.
+fn no_byte_over_3(block: &[u8]) -> bool
+    requires { ⌜ length (now block) ≤ blockClocks ⌝ }
+    ensures { λ r. ⌜ r ≡ noByteOver3 (now (block .entry)) ⌝ }
+{
+    let mut over = 0u32;
+    let mut i = 0;
+    while i < block.len() {
+        over += (block[i] / 4) as u32;
+        i += 1;
+    }
+    over == 0
+}
+
+fn record_of(place: u32, before: Counters, outputs: Outputs) -> TraceRecord
+    ensures { λ r. ⌜ r ≡ traceRecord place before outputs ⌝ }
+{
+    TraceRecord {
+        place,
+        bunch: before.bunch as u32,
+        event: before.event,
+        code: outputs.verdict as u32
+            + 16 * outputs.corrected as u32
+            + 32 * outputs.trigger as u32
+            + 64 * outputs.missed as u32,
+        word: outputs.word,
+    }
+}
+
+// Writes a record to the front of what is left of the buffer.
+fn put_record(free: &mut [u32], new: TraceRecord)
+    requires { ⌜ recordNumbers ≤ length (now free) ⌝ }
+    ensures { λ _. ⌜ now (free .exit) ≡ numbersOf new ++ drop recordNumbers (now (free .entry)) ⌝ }
+{
+    free[0] = new.place;
+    free[1] = new.bunch;
+    free[2] = new.event;
+    free[3] = new.code;
+    free[4] = new.word;
+}
+
+// A record goes behind the others.
+fn add_record(receiver: Receiver, records: usize, new: TraceRecord, buffer: &mut [u32]) -> Running
+    requires { ⌜ recordNumbers * records + recordNumbers ≤ length (now buffer) ⌝ }
+    ensures { λ r. ⌜ leaves r (now (buffer .exit)) ≡ withRecord receiver records new (now (buffer .entry)) ⌝ }
+{
+    let next = 5 * records;
+    put_record(&mut buffer[next..], new);
+    Running {
+        receiver,
+        records: records + 1,
+    }
+}
+
+// A clock that finishes no frame: steps 1 and 2, and the bits then held. It has a record only if a
+// trigger came.
+fn run_unfinished(run: Running, held: Held, place: u32, trigger: u8, buffer: &mut [u32]) -> Running
+    requires { ⌜ (CoreFacts (run .receiver .core)) × (trigger < 2) × (recordNumbers * run .records + recordNumbers ≤ length (now buffer)) ⌝ }
+    ensures { λ r. ⌜ leaves r (now (buffer .exit)) ≡ answeredRun run place (clockedAnswer held (idleClock (run .receiver .core) trigger)) (now (buffer .entry)) ⌝ }
+{
+    let before = run.receiver.core.counters;
+    let idle = idle_clock(run.receiver.core, trigger);
+    let core = idle.core;
+    let receiver = Receiver { core, held };
+    if trigger == 1 {
+        let outputs = idle.outputs;
+        return add_record(
+            receiver,
+            run.records,
+            record_of(place, before, outputs),
+            buffer,
+        );
+    }
+    Running {
+        receiver,
+        records: run.records,
+    }
+}
+
+// A clock that finishes a frame, which always has a record.
+fn run_finished(
+    run: Running,
+    kind: Kind,
+    number: u64,
+    place: u32,
+    trigger: u8,
+    buffer: &mut [u32],
+) -> Running
+    requires { ⌜ (CoreFacts (run .receiver .core)) × (recordNumbers * run .records + recordNumbers ≤ length (now buffer)) ⌝ }
+    ensures { λ r. ⌜ leaves r (now (buffer .exit)) ≡ answeredRun run place (clockedAnswer nothingHeld (finished kind (finishedAnswer columnsOf kind number) (idleClock (run .receiver .core) trigger))) (now (buffer .entry)) ⌝ }
+{
+    let before = run.receiver.core.counters;
+    let clocked = finish(kind, number, idle_clock(run.receiver.core, trigger));
+    let core = clocked.core;
+    let outputs = clocked.outputs;
+    let held = Held { count: 0, bits: 0 };
+    let receiver = Receiver { core, held };
+    add_record(
+        receiver,
+        run.records,
+        record_of(place, before, outputs),
+        buffer,
+    )
+}
+
+// One clock of a block, on a state that is known to be well formed, with a byte that is known to be
+// in range, and with room for a record.
+fn run_clock(run: Running, place: u32, byte: u8, buffer: &mut [u32]) -> Running
+    requires { ⌜ (ReceiverFacts (run .receiver)) × (byte < 4) × (recordNumbers * run .records + recordNumbers ≤ length (now buffer)) ⌝ }
+    ensures { λ r. ⌜ leaves r (now (buffer .exit)) ≡ answeredRun run place (stepAnswer columnsOf (run .receiver) (triggerBit byte) (channelBit byte)) (now (buffer .entry)) ⌝ }
+{
+    let trigger = byte % 2;
+    let taken = take_bit(run.receiver.held, byte / 2 % 2);
+    match taken {
+        Taken::Unfinished(held) => run_unfinished(run, held, place, trigger, buffer),
+        Taken::Finished { kind, number } => run_finished(run, kind, number, place, trigger, buffer),
+    }
+}
+
+// The clocks of a block that is known to be one, on a state that is known to be well formed, with
+// room for a record of each.
+fn run_clocks(receiver: Receiver, block: &[u8], buffer: &mut [u32]) -> Running
+    requires { ⌜ RunsFrom receiver (now block) (now buffer) ⌝ }
+    ensures { λ r. ⌜ leaves r (now (buffer .exit)) ≡ clocksRun columnsOf 0 (record { receiver = receiver; records = 0 }) (now (block .entry)) (now (buffer .entry)) ⌝ }
+{
+    let mut run = Running {
+        receiver,
+        records: 0,
+    };
+    let mut i: usize = 0;
+    while i < block.len() {
+        run = run_clock(run, i as u32, block[i], buffer);
+        i += 1;
+    }
+    run
+}
+
+fn refuse_block(refusal: u8, receiver: Receiver) -> BlockAnswer
+    ensures { λ r. ⌜ r ≡ blockAnswer refusal receiver 0 ⌝ }
+{
+    BlockAnswer {
+        refusal,
+        receiver,
+        records: 0,
+    }
+}
+
+// The clocks of a whole block, with a record of each that has a trigger or finishes a frame.
+pub fn run_block(receiver: Receiver, block: &[u8], buffer: &mut [u32]) -> BlockAnswer
+    ensures { λ r. ⌜ blockDone r (now (buffer .exit)) ≡ runBlock columnsOf receiver (now (block .entry)) (now (buffer .entry)) ⌝ }
+{
+    if !well_formed(receiver) {
+        return refuse_block(2, receiver);
+    }
+    if block.len() > 4096 {
+        return refuse_block(15, receiver);
+    }
+    if buffer.len() < 5 * block.len() {
+        return refuse_block(16, receiver);
+    }
+    if !no_byte_over_3(block) {
+        return refuse_block(1, receiver);
+    }
+    let run = run_clocks(receiver, block, buffer);
+    let last = run.receiver;
+    BlockAnswer {
+        refusal: 0,
+        receiver: last,
+        records: run.records,
+    }
+}
