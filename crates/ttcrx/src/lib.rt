@@ -14,6 +14,8 @@ ghost use Rattle.receiver_state.specs.WellFormed.{wellFormed};
 ghost use Rattle.fate.specs.Fate.{columnsOf};
 ghost use Rattle.receiver.specs.Clock.{clockAnswer};
 ghost use Rattle.receiver.specs.WholeFrame.{receiveAnswer};
+ghost use Rattle.receiver.specs.Block.{blockDone, runBlock};
+ghost use Rattle.trace_records.specs.Filled.{filledLength};
 ghost use Rattle.registers.specs.Access.{readAnswer, writeAnswer};
 ghost use Rattle.line_report.specs.Report.{startReport, filled, reportInput, reportEnd};
 use fine_delay::DelayByte;
@@ -33,6 +35,7 @@ use line_report::report_end;
 use line_report::report_input;
 use line_report::start_report;
 use receiver::ClockAnswer;
+use receiver::block::run_block;
 use receiver::clock;
 use receiver::receive_frame;
 use receiver_state::FreshAnswer;
@@ -48,6 +51,14 @@ use stored_line::Written;
 use stored_line::line_answer;
 use stored_line::read_line;
 use stored_line::write_line;
+use trace_records::filled_length;
+
+// What a block answers a caller who lends the receiver.
+#[repr(C)]
+pub struct BlockOutcome {
+    pub refusal: u8,
+    pub records: usize,
+}
 
 #[no_mangle]
 pub extern "C" fn ttcrx_encode_short(data: u8) -> Encoded
@@ -162,6 +173,32 @@ pub extern "C" fn ttcrx_receive_long(receiver: Receiver, number: u64) -> ClockAn
     ensures { λ r. ⌜ r ≡ receiveAnswer columnsOf receiver Long number ⌝ }
 {
     receive_frame(receiver, Kind::Long, number)
+}
+
+// The one function over a lent receiver: the board service keeps its receiver for weeks. The copy is
+// taken and stored once a block.
+#[no_mangle]
+pub extern "C" fn ttcrx_run_block(
+    receiver: &mut Receiver,
+    block: &[u8],
+    buffer: &mut [u32],
+) -> BlockOutcome
+    ensures { λ r. ⌜ blockDone (record { refusal = r .refusal; receiver = now (receiver .exit); records = r .records }) (now (buffer .exit)) ≡ runBlock columnsOf (now (receiver .entry)) (now (block .entry)) (now (buffer .entry)) ⌝ }
+{
+    let answer = run_block(*receiver, block, buffer);
+    *receiver = answer.receiver;
+    BlockOutcome {
+        refusal: answer.refusal,
+        records: answer.records,
+    }
+}
+
+// A returned part can't be exported: a caller in C gets its length.
+#[no_mangle]
+pub extern "C" fn ttcrx_filled_length(length: usize, records: usize) -> usize
+    ensures { λ r. ⌜ r ≡ filledLength length records ⌝ }
+{
+    filled_length(length, records)
 }
 
 #[no_mangle]
