@@ -1,10 +1,11 @@
 /*
  * The C interface used from C11 and from C++17: the layouts of ttcrx.h, and every function of the
  * archive called with the examples of document 01 and with refusals. Those on whole frames and on
- * reports are called in reports.h.
+ * reports are called in reports.h, those on blocks of clocks in blocks.h.
  */
 #include "ttcrx.h"
 
+#include "blocks.h"
 #include "checks.h"
 #include "reports.h"
 
@@ -113,6 +114,10 @@ static_assert(offsetof(ttcrx_read_answer, byte) == 1, "read.byte");
 static_assert(sizeof(ttcrx_write_answer) == 56, "write");
 static_assert(offsetof(ttcrx_write_answer, refusal) == 0, "write.refusal");
 static_assert(offsetof(ttcrx_write_answer, receiver) == 8, "write.receiver");
+
+static_assert(sizeof(ttcrx_block_answer) == 16, "block");
+static_assert(offsetof(ttcrx_block_answer, refusal) == 0, "block.refusal");
+static_assert(offsetof(ttcrx_block_answer, records) == 8, "block.records");
 
 static_assert(sizeof(ttcrx_line_part) == 12, "line_part");
 static_assert(offsetof(ttcrx_line_part, count) == 0, "line_part.count");
@@ -510,6 +515,7 @@ int main(void)
     check_refused_accesses();
     check_whole_frames();
     check_reports();
+    check_blocks();
     if (failed != 0) {
         return 1;
     }

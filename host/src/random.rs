@@ -41,4 +41,17 @@ impl Random {
     pub fn fill(&mut self, bytes: &mut [u8]) {
         bytes.fill_with(|| self.byte());
     }
+
+    /// The whole cut into pieces of up to so many elements; some of them are empty.
+    pub fn pieces<'a, T>(&mut self, whole: &'a [T], most: u64) -> Vec<&'a [T]> {
+        let mut pieces = Vec::new();
+        let mut rest = whole;
+        while !rest.is_empty() {
+            let length = self.below(most + 1) as usize;
+            let (piece, behind) = rest.split_at(length.min(rest.len()));
+            pieces.push(piece);
+            rest = behind;
+        }
+        pieces
+    }
 }

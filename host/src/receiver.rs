@@ -229,6 +229,18 @@ impl Receiver {
         }
     }
 
+    /// The bunch counter.
+    #[inline]
+    pub fn bunch(&self) -> u16 {
+        self.bunch
+    }
+
+    /// The event counter.
+    #[inline]
+    pub fn event(&self) -> u32 {
+        self.event
+    }
+
     /// "One clock": steps 1 to 3, the frame's effect last, over the numbers before this clock.
     #[inline]
     pub fn clock(&mut self, trigger: bool, data: bool) -> Outputs {

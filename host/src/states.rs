@@ -1,5 +1,7 @@
 //! Random states of ttcrx.h for the tests.
 
+pub mod edges;
+
 use crate::ffi::{Core, Counters, Errors, Held, Ids, Receiver, Sequence, Settings};
 use crate::random::Random;
 use crate::traffic;

@@ -1,6 +1,7 @@
 //! What is sent to a receiver in the tests: frames of every fate, bursts, idle and noise on
 //! channel B, and triggers on channel A.
 
+use crate::blocks;
 use crate::coverage::{assert_seen, Tally};
 use crate::model::{self, Fields};
 use crate::random::Random;
@@ -21,6 +22,18 @@ pub struct Habit {
 
 /// RESET and clears as often as any other frame.
 pub const LIVELY: Habit = Habit { reset: 8, clear: 2 };
+
+/// Counters run for thousands of clocks.
+pub const RARE: Habit = Habit {
+    reset: 500,
+    clear: 20,
+};
+
+/// Counters reach their tops.
+pub const QUIET: Habit = Habit {
+    reset: 20_000,
+    clear: 5_000,
+};
 
 /// What happens to a frame on its way. Flips are of protected bits; those of start, format and
 /// stop are named.
@@ -213,6 +226,15 @@ impl Traffic {
         let rate = TRIGGERS[usize::from(self.triggers)];
         let trigger = rate != 0 && self.random.once_in(rate);
         (trigger.into(), self.data())
+    }
+
+    /// The next clocks as a block of Q-3 of document 02.
+    pub fn block(&mut self, length: usize) -> Vec<u8> {
+        let mut byte = || {
+            let (trigger, data) = self.clock();
+            blocks::byte(trigger, data)
+        };
+        (0..length).map(|_| byte()).collect()
     }
 
     fn data(&mut self) -> u8 {

@@ -5,9 +5,8 @@ use ttcrx_host::calls::Call;
 use ttcrx_host::cases::Cases;
 use ttcrx_host::ffi::{ClockAnswer, Held, Receiver, Sequence};
 use ttcrx_host::random::Random;
+use ttcrx_host::states::edges::{self, Edge};
 use ttcrx_host::{compare, states, traffic, ttcrx};
-
-const EVENTS: u32 = 1 << 24;
 
 /// A refused clock: the state as given, the outputs 0.
 fn refused(refusal: u8, state: Receiver) -> ClockAnswer {
@@ -48,86 +47,19 @@ fn expect_accesses(cases: &mut Cases, name: &str, state: Receiver, good: bool) {
     }
 }
 
-/// A change of a well-formed state, and whether it stays well formed.
-type Edge = (&'static str, bool, fn(&mut Receiver));
-
-const IDS: [Edge; 9] = [
-    ("ID 0", false, |state| state.core.ids.id = 0),
-    ("ID 1", true, |state| state.core.ids.id = 1),
-    ("ID 16383", true, |state| state.core.ids.id = 16383),
-    ("ID 16384", false, |state| state.core.ids.id = 16384),
-    ("ID 65535", false, |state| state.core.ids.id = 65535),
-    ("I2C ID 0", true, |state| state.core.ids.i2c = 0),
-    ("I2C ID 63", true, |state| state.core.ids.i2c = 63),
-    ("I2C ID 64", false, |state| state.core.ids.i2c = 64),
-    ("I2C ID 255", false, |state| state.core.ids.i2c = 255),
-];
-
-const NUMBERS: [Edge; 10] = [
-    ("bunch 4095", true, |state| state.core.counters.bunch = 4095),
-    ("bunch 4096", false, |state| {
-        state.core.counters.bunch = 4096
-    }),
-    ("bunch 65535", false, |state| {
-        state.core.counters.bunch = 65535
-    }),
-    ("event 2^24 - 1", true, |state| {
-        state.core.counters.event = EVENTS - 1
-    }),
-    ("event 2^24", false, |state| {
-        state.core.counters.event = EVENTS
-    }),
-    ("event 2^32 - 1", false, |state| {
-        state.core.counters.event = u32::MAX
-    }),
-    ("status bit 5 is 0", true, |state| {
-        state.core.errors.status5 = 0
-    }),
-    ("status bit 5 is 1", true, |state| {
-        state.core.errors.status5 = 1
-    }),
-    ("status bit 5 is 2", false, |state| {
-        state.core.errors.status5 = 2
-    }),
-    ("status bit 5 is 255", false, |state| {
-        state.core.errors.status5 = 255
-    }),
-];
-
-/// No clause limits these.
-const FREE: [Edge; 6] = [
-    ("fine delays 255", true, |state| {
-        state.core.settings.fine1 = 255;
-        state.core.settings.fine2 = 255;
-    }),
-    ("fine delays 240", true, |state| {
-        state.core.settings.fine1 = 240;
-        state.core.settings.fine2 = 240;
-    }),
-    ("coarse delay 255", true, |state| {
-        state.core.settings.coarse = 255
-    }),
-    ("control 255", true, |state| {
-        state.core.settings.control = 255
-    }),
-    ("single errors 65535", true, |state| {
-        state.core.errors.single_errors = 65535
-    }),
-    ("double errors 255", true, |state| {
-        state.core.errors.double_errors = 255
-    }),
-];
+/// The states at an edge of "Well formed".
+fn expect_all(cases: &mut Cases, edges: Vec<Edge>) {
+    for Edge { name, good, state } in edges {
+        expect(cases, name, state, good);
+    }
+}
 
 #[test]
 fn edges_of_ids_and_numbers() {
     let mut cases = Cases::of("states with an ID or a number at its edge");
     let mut random = Random::new(50);
-    for (name, good, change) in IDS.into_iter().chain(NUMBERS).chain(FREE) {
-        for _ in 0..200 {
-            let mut state = states::well_formed(&mut random);
-            change(&mut state);
-            expect(&mut cases, name, state, good);
-        }
+    for _ in 0..200 {
+        expect_all(&mut cases, edges::numbers(&mut random));
     }
     cases.at_least(25 * 200 * 48);
 }
@@ -136,15 +68,8 @@ fn edges_of_ids_and_numbers() {
 fn every_config_byte() {
     let mut cases = Cases::of("states with every Config byte");
     let mut random = Random::new(51);
-    for byte in 0..=255 {
-        for _ in 0..10 {
-            let mut state = states::well_formed(&mut random);
-            state.core.settings.config2 = byte;
-            expect(&mut cases, "Config 2", state, byte == 0x85 || byte == 0x05);
-            let mut state = states::well_formed(&mut random);
-            state.core.settings.config3 = byte;
-            expect(&mut cases, "Config 3", state, byte == 0xA7 || byte == 0x27);
-        }
+    for _ in 0..10 {
+        expect_all(&mut cases, edges::config_bytes(&mut random));
     }
     cases.at_least(256 * 10 * 2 * 48);
 }
@@ -153,19 +78,8 @@ fn every_config_byte() {
 fn every_number_of_words_left() {
     let mut cases = Cases::of("states with every number of words left");
     let mut random = Random::new(52);
-    for left in 0..=255 {
-        for event in [0, 1, 4095, 4096, EVENTS - 1, EVENTS, EVENTS + 1, u32::MAX] {
-            let good = match left {
-                0 => event == 0,
-                1 | 2 => event < EVENTS,
-                _ => false,
-            };
-            for _ in 0..5 {
-                let mut state = states::well_formed(&mut random);
-                state.core.sequence = Sequence { left, event };
-                expect(&mut cases, "words left", state, good);
-            }
-        }
+    for _ in 0..5 {
+        expect_all(&mut cases, edges::words_left(&mut random));
     }
     cases.at_least(256 * 8 * 5 * 48);
 }
@@ -208,27 +122,11 @@ fn held_bits_of_frames() {
     cases.at_least(4_500_000);
 }
 
-/// With format 0 there are at most 15 bits, with format 1 at most 41; a waiting one holds none.
-/// The greatest 1 of the bits stands at the format bit, behind it, or before it.
 #[test]
 fn every_number_of_held_bits() {
     let mut cases = Cases::of("states with every number of held bits");
     let mut random = Random::new(54);
-    for count in 0..=255u8 {
-        let state = states::well_formed(&mut random);
-        let mut number = |bits, good| {
-            let held = Held { count, bits };
-            expect(&mut cases, "held", Receiver { held, ..state }, good);
-        };
-        number(0, count <= 15);
-        for place in 0..64 {
-            let long = place + 2 == count && count <= 41;
-            let short = place + 2 < count && count <= 15;
-            for bits in [1 << place, 1 << place | 1, u64::MAX >> (63 - place)] {
-                number(bits, long || short);
-            }
-        }
-    }
+    expect_all(&mut cases, edges::held_bits(&mut random));
     cases.at_least(256 * (1 + 64 * 3) * 48);
 }
 

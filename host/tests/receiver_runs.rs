@@ -8,17 +8,8 @@ use ttcrx_host::device::{self, Library, Shown};
 use ttcrx_host::ffi;
 use ttcrx_host::random::Random;
 use ttcrx_host::receiver::{Receiver, Refusal};
-use ttcrx_host::traffic::{Habit, Traffic, LIVELY};
+use ttcrx_host::traffic::{Habit, Traffic, LIVELY, QUIET, RARE};
 use ttcrx_host::{answer, compare, states, ttcrx};
-
-const RARE: Habit = Habit {
-    reset: 500,
-    clear: 20,
-};
-const QUIET: Habit = Habit {
-    reset: 20_000,
-    clear: 5_000,
-};
 
 struct Runs {
     cases: Cases,

@@ -9,3 +9,4 @@ mod Ending
 pub mod Demand3
 pub mod Existence
 pub mod Examples
+pub mod Blocks

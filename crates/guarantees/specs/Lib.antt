@@ -4,3 +4,4 @@ pub mod LastClock
 pub mod Demand3
 pub mod Existence
 pub mod Examples
+pub mod Blocks

@@ -1,32 +1,17 @@
 //! Calls of the library's reports, each compared with the model's answer.
 
 use ttcrx_host::cases::Cases;
+use ttcrx_host::lent::Lent;
 use ttcrx_host::random::Random;
 use ttcrx_host::reports::ffi::{Report, Reported};
 use ttcrx_host::reports::{answer, ttcrx};
 
-/// Bytes on both sides of the lent part, to be left alone.
-const GUARD: usize = 40;
-
 /// The room that a report of a line asks for.
 pub const LINE: usize = 34;
 
-/// Filled bytes of which the middle part is lent.
-struct Buffer {
-    bytes: Vec<u8>,
-    length: usize,
-}
-
-impl Buffer {
-    fn filled(random: &mut Random, length: usize) -> Buffer {
-        let mut bytes = vec![0; GUARD + length + GUARD];
-        random.fill(&mut bytes);
-        Buffer { bytes, length }
-    }
-
-    fn lent(&mut self) -> &mut [u8] {
-        &mut self.bytes[GUARD..GUARD + self.length]
-    }
+/// Random bytes to lend so many of.
+fn filled(random: &mut Random, length: usize) -> Lent<u8> {
+    Lent::filled(length, || random.byte())
 }
 
 /// One function of the library beside that of the model: answers and whole buffers are equal, and
@@ -34,24 +19,21 @@ impl Buffer {
 #[track_caller]
 fn same(
     cases: &mut Cases,
-    mut buffer: Buffer,
+    mut buffer: Lent<u8>,
     report: Report,
     library: impl Fn(&mut [u8]) -> Reported,
     model: impl Fn(&mut [u8]) -> Reported,
 ) -> (Reported, Vec<u8>) {
-    let before = buffer.bytes.clone();
-    let mut expected_buffer = Buffer {
-        bytes: before.clone(),
-        length: buffer.length,
-    };
-    let answer = library(buffer.lent());
-    let expected = model(expected_buffer.lent());
+    let before = buffer.clone();
+    let mut expected_buffer = buffer.clone();
+    let answer = library(buffer.part());
+    let expected = model(expected_buffer.part());
     cases.same(report, answer, expected);
-    cases.same(report, &buffer.bytes, &expected_buffer.bytes);
-    let end = GUARD + answer.written;
-    cases.same(report, &buffer.bytes[end..], &before[end..]);
-    cases.same(report, &buffer.bytes[..GUARD], &before[..GUARD]);
-    (answer, buffer.lent()[..answer.written].to_vec())
+    cases.same(report, buffer.whole(), expected_buffer.whole());
+    let end = answer.written;
+    cases.same(report, buffer.behind(end), before.behind(end));
+    cases.same(report, buffer.before(), before.before());
+    (answer, buffer.part()[..answer.written].to_vec())
 }
 
 /// A report that is fed, and all that it has written.
@@ -75,7 +57,7 @@ impl<'a> Driver<'a> {
     /// One call of `ttcrx_report_input`. Gives how many bytes it has used.
     #[track_caller]
     pub fn input(&mut self, input: &[u8], length: usize) -> usize {
-        let buffer = Buffer::filled(&mut self.random, length);
+        let buffer = filled(&mut self.random, length);
         let report = self.report;
         let (answer, text) = same(
             self.cases,
@@ -111,7 +93,7 @@ impl<'a> Driver<'a> {
     /// One call of `ttcrx_report_end`.
     #[track_caller]
     pub fn end(&mut self, length: usize) -> Reported {
-        let buffer = Buffer::filled(&mut self.random, length);
+        let buffer = filled(&mut self.random, length);
         let report = self.report;
         let (answer, text) = same(
             self.cases,

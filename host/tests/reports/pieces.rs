@@ -66,20 +66,6 @@ fn every_two_cuts() {
     cases.at_least(10_000);
 }
 
-/// Cuts the input into pieces; many of them are empty or of one byte.
-fn cut<'a>(random: &mut Random, input: &'a [u8]) -> Vec<&'a [u8]> {
-    let most = random.pick(&[1, 2, 6, 30, 400]);
-    let mut pieces = Vec::new();
-    let mut rest = input;
-    while !rest.is_empty() {
-        let length = random.below(most + 1) as usize;
-        let (piece, behind) = rest.split_at(length.min(rest.len()));
-        pieces.push(piece);
-        rest = behind;
-    }
-    pieces
-}
-
 #[test]
 fn random_cuts() {
     let mut cases = Cases::of("inputs cut into many pieces");
@@ -87,7 +73,8 @@ fn random_cuts() {
     for _ in 0..1_500 {
         let input = input(&mut random, 60);
         let whole = reported(&mut cases, &[&input], &[AMPLE]);
-        let pieces = cut(&mut random, &input);
+        let most = random.pick(&[1, 2, 6, 30, 400]);
+        let pieces = random.pieces(&input, most);
         let lengths = [0; 5].map(|_| random.pick(&LENGTHS));
         let kept = reported(&mut cases, &pieces, &lengths);
         cases.same(&input, kept, whole);

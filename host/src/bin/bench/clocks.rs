@@ -1,79 +1,15 @@
 //! Single clocks of the library beside those of the model, in this process.
 
+use crate::patterns::{Bits, PATTERNS};
 use crate::table::{millions, ratio, Table};
 use std::hint::black_box;
 use std::time::Instant;
 use ttcrx_host::ffi;
-use ttcrx_host::random::Random;
 use ttcrx_host::receiver::{Bus, Outputs, Receiver};
-use ttcrx_host::stored_lines::{any_frame, MOSTLY_CLEAN};
 use ttcrx_host::ttcrx;
 
-const CLOCKS: usize = 8_000_000;
 const ROUNDS: usize = 3;
-const SEED: u64 = 101;
 const ID: u16 = 5;
-
-/// The bits of both channels on one clock.
-#[derive(Clone, Copy)]
-struct Bits {
-    trigger: bool,
-    data: bool,
-}
-
-/// What the receivers are clocked with.
-struct Pattern {
-    name: &'static str,
-    /// The clocks between two frames: any number below this.
-    gap: u64,
-    /// A trigger comes once in so many clocks; never with 0.
-    triggers: u64,
-}
-
-const PATTERNS: [Pattern; 4] = [
-    Pattern {
-        name: "idle-heavy, no triggers",
-        gap: 2_000,
-        triggers: 0,
-    },
-    Pattern {
-        name: "idle-heavy, triggers",
-        gap: 2_000,
-        triggers: 20,
-    },
-    Pattern {
-        name: "frame-heavy, no triggers",
-        gap: 3,
-        triggers: 0,
-    },
-    Pattern {
-        name: "frame-heavy, triggers",
-        gap: 3,
-        triggers: 20,
-    },
-];
-
-impl Pattern {
-    fn clocks(&self) -> Vec<Bits> {
-        let mut random = Random::new(SEED);
-        let mut clocks = Vec::with_capacity(CLOCKS);
-        while clocks.len() < CLOCKS {
-            for _ in 0..random.below(self.gap) {
-                clocks.push(self.clock(&mut random, true));
-            }
-            let frame = any_frame(&mut random, &MOSTLY_CLEAN);
-            for place in (0..frame.length).rev() {
-                clocks.push(self.clock(&mut random, frame.number >> place & 1 == 1));
-            }
-        }
-        clocks
-    }
-
-    fn clock(&self, random: &mut Random, data: bool) -> Bits {
-        let trigger = self.triggers != 0 && random.once_in(self.triggers);
-        Bits { trigger, data }
-    }
-}
 
 /// One more clock's outputs in a checksum of all.
 #[inline]

@@ -1,11 +1,13 @@
 //! The benchmark of `make bench`: the proved program and library beside the independent model, both
 //! sides in one run on the same input, and their results compared.
 
+mod blocks;
 mod child;
 mod clocks;
 mod frames;
 mod input;
 mod machine;
+mod patterns;
 mod programs;
 mod table;
 
@@ -46,6 +48,7 @@ fn bench() -> io::Result<()> {
     programs::run(&proved, &plain, &folder)?;
     clocks::run();
     frames::run();
+    blocks::run();
     println!("Everywhere the results of both sides were equal.");
     Ok(())
 }

@@ -1,0 +1,162 @@
+//! States at the edges of "Well formed" of document 01, clause by clause.
+
+use super::well_formed;
+use crate::ffi::{Held, Receiver, Sequence};
+use crate::random::Random;
+
+const EVENTS: u32 = 1 << 24;
+
+/// A state that was changed in one respect, and whether it stays well formed.
+#[derive(Clone, Copy, Debug)]
+pub struct Edge {
+    pub name: &'static str,
+    pub good: bool,
+    pub state: Receiver,
+}
+
+/// A change of a well-formed state, and whether it stays well formed.
+type Change = (&'static str, bool, fn(&mut Receiver));
+
+const IDS: [Change; 9] = [
+    ("ID 0", false, |state| state.core.ids.id = 0),
+    ("ID 1", true, |state| state.core.ids.id = 1),
+    ("ID 16383", true, |state| state.core.ids.id = 16383),
+    ("ID 16384", false, |state| state.core.ids.id = 16384),
+    ("ID 65535", false, |state| state.core.ids.id = 65535),
+    ("I2C ID 0", true, |state| state.core.ids.i2c = 0),
+    ("I2C ID 63", true, |state| state.core.ids.i2c = 63),
+    ("I2C ID 64", false, |state| state.core.ids.i2c = 64),
+    ("I2C ID 255", false, |state| state.core.ids.i2c = 255),
+];
+
+const NUMBERS: [Change; 10] = [
+    ("bunch 4095", true, |state| state.core.counters.bunch = 4095),
+    ("bunch 4096", false, |state| {
+        state.core.counters.bunch = 4096
+    }),
+    ("bunch 65535", false, |state| {
+        state.core.counters.bunch = 65535
+    }),
+    ("event 2^24 - 1", true, |state| {
+        state.core.counters.event = EVENTS - 1
+    }),
+    ("event 2^24", false, |state| {
+        state.core.counters.event = EVENTS
+    }),
+    ("event 2^32 - 1", false, |state| {
+        state.core.counters.event = u32::MAX
+    }),
+    ("status bit 5 is 0", true, |state| {
+        state.core.errors.status5 = 0
+    }),
+    ("status bit 5 is 1", true, |state| {
+        state.core.errors.status5 = 1
+    }),
+    ("status bit 5 is 2", false, |state| {
+        state.core.errors.status5 = 2
+    }),
+    ("status bit 5 is 255", false, |state| {
+        state.core.errors.status5 = 255
+    }),
+];
+
+/// No clause limits these.
+const FREE: [Change; 6] = [
+    ("fine delays 255", true, |state| {
+        state.core.settings.fine1 = 255;
+        state.core.settings.fine2 = 255;
+    }),
+    ("fine delays 240", true, |state| {
+        state.core.settings.fine1 = 240;
+        state.core.settings.fine2 = 240;
+    }),
+    ("coarse delay 255", true, |state| {
+        state.core.settings.coarse = 255
+    }),
+    ("control 255", true, |state| {
+        state.core.settings.control = 255
+    }),
+    ("single errors 65535", true, |state| {
+        state.core.errors.single_errors = 65535
+    }),
+    ("double errors 255", true, |state| {
+        state.core.errors.double_errors = 255
+    }),
+];
+
+/// An ID or a number at its edge.
+pub fn numbers(random: &mut Random) -> Vec<Edge> {
+    let changes = IDS.into_iter().chain(NUMBERS).chain(FREE);
+    let edge = |(name, good, change): Change| {
+        let mut state = well_formed(random);
+        change(&mut state);
+        Edge { name, good, state }
+    };
+    changes.map(edge).collect()
+}
+
+/// Every Config byte.
+pub fn config_bytes(random: &mut Random) -> Vec<Edge> {
+    let mut edges = Vec::new();
+    for byte in 0..=255 {
+        let mut state = well_formed(random);
+        state.core.settings.config2 = byte;
+        edges.push(Edge {
+            name: "Config 2",
+            good: byte == 0x85 || byte == 0x05,
+            state,
+        });
+        let mut state = well_formed(random);
+        state.core.settings.config3 = byte;
+        edges.push(Edge {
+            name: "Config 3",
+            good: byte == 0xA7 || byte == 0x27,
+            state,
+        });
+    }
+    edges
+}
+
+/// Every number of words left, with kept numbers at their edges.
+pub fn words_left(random: &mut Random) -> Vec<Edge> {
+    let mut edges = Vec::new();
+    for left in 0..=255 {
+        for event in [0, 1, 4095, 4096, EVENTS - 1, EVENTS, EVENTS + 1, u32::MAX] {
+            let mut state = well_formed(random);
+            state.core.sequence = Sequence { left, event };
+            edges.push(Edge {
+                name: "words left",
+                good: match left {
+                    0 => event == 0,
+                    1 | 2 => event < EVENTS,
+                    _ => false,
+                },
+                state,
+            });
+        }
+    }
+    edges
+}
+
+/// Every number of held bits. With format 0 there are at most 15, with format 1 at most 41; a
+/// waiting receiver holds none. The greatest 1 stands at the format bit, behind it, or before it.
+pub fn held_bits(random: &mut Random) -> Vec<Edge> {
+    let mut edges = Vec::new();
+    for count in 0..=255u8 {
+        let mut state = well_formed(random);
+        let mut number = |bits, good| {
+            state.held = Held { count, bits };
+            let name = "held";
+            edges.push(Edge { name, good, state });
+        };
+        number(0, count <= 15);
+        for place in 0..64 {
+            let long = place + 2 == count && count <= 41;
+            let short = place + 2 < count && count <= 15;
+            for bits in [1 << place, 1 << place | 1, u64::MAX >> (63 - place)] {
+                number(bits, long || short);
+            }
+        }
+    }
+    edges
+}
