@@ -8,7 +8,7 @@ use native.Mathlib.Nat.{add-zero, zero-add, add-suc, suc-add, add-assoc, mod-lt}
 use native.Mathlib.Omega.{arith}
 use borrow.Author.Tests.{eq-eqb, ne-eqb, eqb-true, eqb-false, lt-ltb, le-ltb, ltb-true, ltb-false, le-leb, leb-true}
 use lib.Dec.{eqb, ltb, leb, lit<}
-use lib.ListN.{length, take, drop, getD, length-append, take-append-drop, length-drop, List·getD-append}
+use lib.ListN.{length, take, drop, getD, length-append, length-drop, length-map, List·getD-append}
 use lib.Seq.{length-take-le, take-suc, take-length, take-at, drop-at, getD-append-add}
 use Rattle.laws.proofs.Rules.{picked, picked-by, by-test}
 use Rattle.laws.proofs.Table.{all-entries}
@@ -128,3 +128,211 @@ module _ (columns : Kind → List ℕ) where
 
     single-records : blockRecords columns r block ≡ singleRecords columns r block
     single-records = ap (blockRecords columns r) (sym (take-length block)) ∙ records-below (length block) (omega arith)
+
+  -- ---- refusals
+
+  module _ (r : Receiver) (block buffer : List ℕ) where
+    accepted : IsBlock r block buffer → runBlock columns r block buffer ≡ acceptedBlock columns r block buffer
+    unfolding runBlock
+    accepted b = rw (b .well-formed, le-ltb blockClocks (length block) (b .few), le-ltb (length buffer) (recordNumbers * length block) (b .room), in-range block (b .in-range)) refl
+
+    refused-by-2 : wellFormed r ≡ false → runBlock columns r block buffer ≡ refusedBlock 2 r buffer
+    unfolding runBlock
+    refused-by-2 w = rw w refl
+
+    refused-by-15 : wellFormed r ≡ true → blockClocks < length block → runBlock columns r block buffer ≡ refusedBlock 15 r buffer
+    unfolding runBlock
+    refused-by-15 w long = rw (w, lt-ltb blockClocks (length block) long) refl
+
+    refused-by-16 : wellFormed r ≡ true → length block ≤ blockClocks → length buffer < recordNumbers * length block
+        → runBlock columns r block buffer ≡ refusedBlock 16 r buffer
+    unfolding runBlock
+    refused-by-16 w few small = rw (w, le-ltb blockClocks (length block) few, lt-ltb (length buffer) (recordNumbers * length block) small) refl
+
+    refused-by-1 : (place : ℕ) → wellFormed r ≡ true → length block ≤ blockClocks → recordNumbers * length block ≤ length buffer
+        → place < length block → 3 < getD block place 0 → runBlock columns r block buffer ≡ refusedBlock 1 r buffer
+    unfolding runBlock
+    refused-by-1 place w few room here over =
+        let out : noByteOver3 block ≡ false = by-test (noByteOver3 block) (λ t. absurd (let small : getD block place 0 < 4 = byte-below block t place here in omega arith)) (λ t. t) in
+        rw (w, le-ltb blockClocks (length block) few, le-ltb (length buffer) (recordNumbers * length block) room, out) refl
+
+    -- what is not refused passed every test
+    is-block : runBlock columns r block buffer .answer .refusal ≡ 0 → IsBlock r block buffer
+    unfolding runBlock
+    is-block =
+        picked-by Taken (wellFormed r)
+        (λ w. picked-by Taken (ltb blockClocks (length block)) (λ t z. absurd (omega arith))
+        (λ few. picked-by Taken (ltb (length buffer) (recordNumbers * length block)) (λ t z. absurd (omega arith))
+        (λ room. picked-by Taken (noByteOver3 block)
+        (λ bits z.
+        record {
+          well-formed = w;
+          few = ltb-false blockClocks (length block) few;
+          room = ltb-false (length buffer) (recordNumbers * length block) room;
+          in-range = λ place here. let small : getD block place 0 < 4 = byte-below block bits place here in omega arith;
+        })
+        (λ t z. absurd (omega arith)))))
+        (λ t z. absurd (omega arith))
+      where
+        Taken : BlockDone → Type 0
+        Taken done = done .answer .refusal ≡ 0 → IsBlock r block buffer
+
+    -- ---- what an accepted block leaves
+
+    abbrev records : List TraceRecord
+    records = blockRecords columns r block
+
+    five-fit : IsBlock r block buffer → length (allNumbers records) ≤ length buffer
+    five-fit b = omega (arith, b .room, five-each columns records, one-a-clock columns 0 r block)
+
+    -- the front of the buffer that so many records fill
+    front : (n : ℕ) (numbers rest : List ℕ) → length numbers ≡ recordNumbers * n → filledPart (numbers ++ rest) n ≡ numbers
+    unfolding filledLength
+    front n numbers rest e =
+        let fits : recordNumbers * n ≤ length (numbers ++ rest) = omega (arith, length-append numbers rest) in
+        rw (le-leb (recordNumbers * n) (length (numbers ++ rest)) fits) (take-at numbers rest (recordNumbers * n) e)
+
+    filled-front : filledPart (acceptedBlock columns r block buffer .buffer) (length records) ≡ allNumbers records
+    filled-front = front (length records) (allNumbers records) (drop (length (allNumbers records)) buffer) (five-each columns records)
+
+    done-singly : IsBlock r block buffer → DoneSingly columns r block buffer (acceptedBlock columns r block buffer)
+    done-singly b =
+        let single = single-records r block in
+        let fits = five-fit b in
+        record {
+          state-is = state-calls r block;
+          filled-is = filled-front ∙ ap allNumbers single;
+          count-is = ap (λ (l : List TraceRecord). length l) single;
+          fit = omega (arith, fits, five-each columns records);
+          others-stay =
+              drop-at (allNumbers records) (drop (length (allNumbers records)) buffer) (recordNumbers * length records) (five-each columns records)
+              ∙ ap (λ (n : ℕ). drop n buffer) (five-each columns records);
+          same-length = omega (arith, fits, length-append (allNumbers records) (drop (length (allNumbers records)) buffer), length-drop (length (allNumbers records)) buffer);
+        }
+
+    equals-singly : IsBlock r block buffer → DoneSingly columns r block buffer (runBlock columns r block buffer)
+    equals-singly b = subst (DoneSingly columns r block buffer) (sym (accepted b)) (done-singly b)
+
+  -- ---- a block cut in two
+
+  module _ (r : Receiver) (first second buffer buffer₁ buffer₂ : List ℕ) (b : IsBlock r (first ++ second) buffer)
+      (room₁ : recordNumbers * length first ≤ length buffer₁) (room₂ : recordNumbers * length second ≤ length buffer₂)
+      (w : wellFormed (stateAfter columns r first) ≡ true) where
+    is-first : IsBlock r first buffer₁
+    is-first = record {
+      well-formed = b .well-formed;
+      few = omega (arith, b .few, length-append first second);
+      room = room₁;
+      in-range = λ place here.
+          subst (λ (n : ℕ). n ≤ 3) (List·getD-append first second 0 place here)
+          (b .in-range place (omega (arith, length-append first second)));
+    }
+
+    is-second : IsBlock (stateAfter columns r first) second buffer₂
+    is-second = record {
+      well-formed = w;
+      few = omega (arith, b .few, length-append first second);
+      room = room₂;
+      in-range = λ place here.
+          subst (λ (n : ℕ). n ≤ 3) (getD-append-add first second place 0)
+          (b .in-range (length first + place) (omega (arith, length-append first second)));
+    }
+
+    cut : CutInTwo columns first second (acceptedBlock columns r (first ++ second) buffer) (acceptedBlock columns r first buffer₁)
+        (acceptedBlock columns (stateAfter columns r first) second buffer₂)
+    cut =
+        let after = stateAfter columns r first in
+        let shifted = map (later (length first)) (blockRecords columns after second) in
+        let parts = parts-records r first second in
+        record {
+          first-taken = refl;
+          second-taken = refl;
+          same-state = state-append r first second;
+          same-count =
+              ap (λ (l : List TraceRecord). length l) parts
+              ∙ length-append (blockRecords columns r first) shifted
+              ∙ ap (λ (n : ℕ). length (blockRecords columns r first) + n) (length-map (blockRecords columns after second) (later (length first)));
+          second-filled = filled-front after second buffer₂ ∙ ap allNumbers (single-records after second);
+          same-records =
+              filled-front r (first ++ second) buffer
+              ∙ ap allNumbers parts
+              ∙ numbers-append (blockRecords columns r first) shifted
+              ∙ ap₂ (λ (x y : List ℕ). x ++ y) (sym (filled-front r first buffer₁))
+              (ap (λ (l : List TraceRecord). allNumbers (map (later (length first)) l)) (single-records after second));
+        }
+
+-- ---- what depends on the laws of a clock
+
+module _ (columns : Kind → List ℕ) (laws : ClockLaws columns) where
+  state-stays : (r : Receiver) (bytes : List ℕ) → wellFormed r ≡ true → wellFormed (stateAfter columns r bytes) ≡ true
+  unfolding stateAfter
+  state-stays r [] w = w
+  state-stays r (byte ∷ bytes) w = state-stays (byteClock columns r byte .receiver) bytes (laws .stays-well-formed r (triggerBit byte) (channelBit byte) w)
+
+  stays-well-formed : blocks.StaysWellFormed columns
+  unfolding runBlock
+  stays-well-formed r block buffer w =
+      picked Stays (wellFormed r)
+      (picked Stays (ltb blockClocks (length block)) w
+      (picked Stays (ltb (length buffer) (recordNumbers * length block)) w
+      (picked Stays (noByteOver3 block) (state-stays r block w) w)))
+      w
+    where
+      Stays : BlockDone → Type 0
+      Stays done = wellFormed (done .answer .receiver) ≡ true
+
+  recorded-by : (shown : Outputs) (trigger : ℕ) → shown .trigger ≡ trigger → trigger < 2 → (recorded shown ≡ true) ↔ ((trigger ≡ 1) ⊎ (shown .verdict ≢ 0))
+  unfolding recorded
+  recorded-by shown trigger e h = (
+    λ is. by-test (eqb (shown .trigger) 0)
+        (λ none. inr (λ v. false≢true (rw (none, eq-eqb (shown .verdict) 0 v) at is)))
+        (λ some. inl (let n : shown .trigger ≢ 0 = eqb-false (shown .trigger) 0 some in omega (arith, e, n))),
+    ⊎-elim
+    (λ t. let n : shown .trigger ≢ 0 = some-trigger (shown .trigger) (e ∙ t) in rw (ne-eqb (shown .trigger) 0 n) refl)
+    (λ v. rw (ne-eqb (shown .verdict) 0 v) (or-true (not (eqb (shown .trigger) 0)))),
+  )
+    where
+      some-trigger : (n : ℕ) → n ≡ 1 → n ≢ 0
+      some-trigger n a z = omega arith
+
+      or-true : (a : Bool) → (a || true) ≡ true
+      or-true true = refl
+      or-true false = refl
+
+  recorded-exactly : blocks.RecordedExactly columns
+  unfolding call
+  recorded-exactly r block buffer place b here =
+      let byte = getD block place 0 in
+      let before = stateBefore columns r block place in
+      let w = subst (λ (x : Receiver). wellFormed x ≡ true) (state-calls columns r (take place block)) (state-stays r (take place block) (b .well-formed)) in
+      let t : triggerBit byte < 2 = mod-lt byte (lit< tt) in
+      let shows = laws .bus-law before (triggerBit byte) (channelBit byte) (w, t, mod-lt _ (lit< tt)) in
+      recorded-by (shownAt columns r block place) (triggerBit byte) (shows .trigger-shown) t
+
+  cuts-never-show : blocks.CutsNeverShow columns
+  cuts-never-show r first second buffer buffer₁ buffer₂ b room₁ room₂ =
+      let w = state-stays r first (b .well-formed) in
+      let one = accepted columns r first buffer₁ (is-first columns r first second buffer buffer₁ buffer₂ b room₁ room₂ w) in
+      let two = accepted columns (stateAfter columns r first) second buffer₂ (is-second columns r first second buffer buffer₁ buffer₂ b room₁ room₂ w) in
+      rw (accepted columns r (first ++ second) buffer b, one, two) (cut columns r first second buffer buffer₁ buffer₂ b room₁ room₂ w)
+
+pub block-theorem : BlockTheorem
+block-theorem columns good =
+    let laws = clock-theorem columns good in
+    record {
+      nothing-else-refused = λ r block buffer. (
+        is-block columns r block buffer,
+        λ b. ap (λ (d : BlockDone). d .answer .refusal) (accepted columns r block buffer b),
+      );
+      refused-by-2 = refused-by-2 columns;
+      refused-by-15 = refused-by-15 columns;
+      refused-by-16 = refused-by-16 columns;
+      refused-by-1 = refused-by-1 columns;
+      equals-singly = equals-singly columns;
+      recorded-exactly = recorded-exactly columns laws;
+      stays-well-formed = stays-well-formed columns laws;
+      cuts-never-show = cuts-never-show columns laws;
+    }
+
+pub receiver-blocks : ReceiverBlocks
+receiver-blocks = block-theorem columnsOf tables-good
