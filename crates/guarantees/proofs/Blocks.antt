@@ -288,8 +288,8 @@ module _ (columns : Kind → List ℕ) (laws : ClockLaws columns) where
         (λ none. inr (λ v. false≢true (rw (none, eq-eqb (shown .verdict) 0 v) at is)))
         (λ some. inl (let n : shown .trigger ≢ 0 = eqb-false (shown .trigger) 0 some in omega (arith, e, n))),
     ⊎-elim
-    (λ t. let n : shown .trigger ≢ 0 = some-trigger (shown .trigger) (e ∙ t) in rw (ne-eqb (shown .trigger) 0 n) refl)
-    (λ v. rw (ne-eqb (shown .verdict) 0 v) (or-true (not (eqb (shown .trigger) 0)))),
+        (λ t. let n : shown .trigger ≢ 0 = some-trigger (shown .trigger) (e ∙ t) in rw (ne-eqb (shown .trigger) 0 n) refl)
+        (λ v. rw (ne-eqb (shown .verdict) 0 v) (or-true (not (eqb (shown .trigger) 0)))),
   )
     where
       some-trigger : (n : ℕ) → n ≡ 1 → n ≢ 0
