@@ -7,6 +7,7 @@ pub mod AtOnce
 pub mod Records
 pub mod InRange
 pub mod Run
+pub mod Quiet
 mod BusSequence
 mod Advance
 pub mod Laws

@@ -10,16 +10,17 @@ ghost use Prim.Native.Nat.{_+_, _*_, _<_, _≤_};
 ghost use lib.ListN.{length, drop};
 ghost use Rattle.trace_records.specs.Filled.{recordNumbers};
 ghost use Rattle.receiver_state.specs.State.{nothingHeld};
-ghost use Rattle.receiver_state.specs.WellFormed.{CoreFacts, ReceiverFacts};
+ghost use Rattle.receiver_state.specs.WellFormed.{CountersFacts, CoreFacts, ReceiverFacts};
 ghost use Rattle.fate.specs.Fate.{columnsOf, finishedAnswer, finished};
 ghost use Rattle.receiver.specs.IdleClock.{idleClock};
 ghost use Rattle.receiver.specs.Clock.{clockedAnswer, stepAnswer};
 ghost use Rattle.receiver.specs.Block.{triggerBit, channelBit, traceRecord, numbersOf, blockDone, blockAnswer, blockClocks, noByteOver3, runBlock};
-ghost use Rattle.receiver.specs.Run.{leaves, withRecord, answeredRun, clocksRun, RunsFrom};
+ghost use Rattle.receiver.specs.Run.{leaves, withRecord, answeredRun, clocksRun, firstTurn, Going, quietRun, Quiet, Turned};
 use crate::BlockAnswer;
 use crate::Running;
 use crate::Taken;
 use crate::TraceRecord;
+use crate::Turn;
 use crate::channel_b::take_bit;
 use crate::idle::idle_clock;
 use fate::Outputs;
@@ -150,22 +151,97 @@ fn run_clock(run: Running, place: u32, byte: u8, buffer: &mut [u32]) -> Running
     }
 }
 
+// What clocks without a trigger leave, if no sequence was running and no frame finished: only the
+// bunch counter and the bits held have moved.
+fn after_quiet(run: Running, clocks: usize, held: Held) -> Running
+    requires { ⌜ (CountersFacts (run .receiver .core .counters)) × (clocks ≤ blockClocks) ⌝ }
+    ensures { λ r. ⌜ r ≡ quietRun clocks held run ⌝ }
+{
+    let mut counters = run.receiver.core.counters;
+    counters.bunch = ((run.receiver.core.counters.bunch as usize + clocks) % 0x1000) as u16;
+    let mut core = run.receiver.core;
+    core.counters = counters;
+    let receiver = Receiver { core, held };
+    Running {
+        receiver,
+        records: run.records,
+    }
+}
+
+// The clocks up to the next trigger or finished frame, where no sequence is running. They have no
+// record, and are counted together.
+fn run_quiet(turn: Turn, block: &[u8]) -> Turn
+    requires { ⌜ (Going turn (now block)) × (turn .run .receiver .core .sequence .left ≡ 0) ⌝ }
+    ensures { λ r. ⌜ Quiet columnsOf (now (block .entry)) turn r ⌝ }
+{
+    let mut held = turn.run.receiver.held;
+    let mut at = turn.next;
+    while at < block.len() {
+        let byte = block[at];
+        if byte % 2 == 1 {
+            let run = after_quiet(turn.run, at - turn.next, held);
+            return Turn { run, next: at };
+        }
+        let taken = take_bit(held, byte / 2 % 2);
+        let Taken::Unfinished(longer) = taken else {
+            let run = after_quiet(turn.run, at - turn.next, held);
+            return Turn { run, next: at };
+        };
+        held = longer;
+        at += 1;
+    }
+    let run = after_quiet(turn.run, at - turn.next, held);
+    Turn { run, next: at }
+}
+
+// The quiet clocks that come next, if any. A trigger is tested first: where triggers are frequent
+// it is the reason that there are none.
+fn quiet_part(turn: Turn, block: &[u8]) -> Turn
+    requires { ⌜ (Going turn (now block)) × (turn .next < length (now block)) ⌝ }
+    ensures { λ r. ⌜ Quiet columnsOf (now (block .entry)) turn r ⌝ }
+{
+    let place = turn.next;
+    if block[place] % 2 == 1 {
+        return turn;
+    }
+    if turn.run.receiver.core.sequence.left > 0 {
+        return turn;
+    }
+    run_quiet(turn, block)
+}
+
+// The quiet clocks that come next, and the clock behind them.
+fn run_turn(turn: Turn, block: &[u8], buffer: &mut [u32]) -> Turn
+    requires { ⌜ (Going turn (now block)) × (turn .next < length (now block)) × (recordNumbers * length (now block) ≤ length (now buffer)) ⌝ }
+    ensures { λ r. ⌜ Turned columnsOf (now (block .entry)) turn r (now (buffer .entry)) (now (buffer .exit)) ⌝ }
+{
+    let quiet = quiet_part(turn, block);
+    let place = quiet.next;
+    if place == block.len() {
+        return quiet;
+    }
+    let run = run_clock(quiet.run, place as u32, block[place], buffer);
+    Turn {
+        run,
+        next: place + 1,
+    }
+}
+
 // The clocks of a block that is known to be one, on a state that is known to be well formed, with
 // room for a record of each.
 fn run_clocks(receiver: Receiver, block: &[u8], buffer: &mut [u32]) -> Running
-    requires { ⌜ RunsFrom receiver (now block) (now buffer) ⌝ }
-    ensures { λ r. ⌜ leaves r (now (buffer .exit)) ≡ clocksRun columnsOf 0 (record { receiver = receiver; records = 0 }) (now (block .entry)) (now (buffer .entry)) ⌝ }
+    requires { ⌜ (Going (firstTurn receiver) (now block)) × (recordNumbers * length (now block) ≤ length (now buffer)) ⌝ }
+    ensures { λ r. ⌜ leaves r (now (buffer .exit)) ≡ clocksRun columnsOf 0 (firstTurn receiver .run) (now (block .entry)) (now (buffer .entry)) ⌝ }
 {
-    let mut run = Running {
+    let run = Running {
         receiver,
         records: 0,
     };
-    let mut i: usize = 0;
-    while i < block.len() {
-        run = run_clock(run, i as u32, block[i], buffer);
-        i += 1;
+    let mut turn = Turn { run, next: 0 };
+    while turn.next < block.len() {
+        turn = run_turn(turn, block, buffer);
     }
-    run
+    turn.run
 }
 
 fn refuse_block(refusal: u8, receiver: Receiver) -> BlockAnswer

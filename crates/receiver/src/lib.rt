@@ -73,6 +73,12 @@ pub struct Running {
     pub records: usize,
 }
 
+// How far a block has come: what its clocks left so far, and the place of the next one.
+pub struct Turn {
+    pub run: Running,
+    pub next: usize,
+}
+
 fn no_outputs() -> Outputs
     ensures { λ r. ⌜ r ≡ noOutputs ⌝ }
 {

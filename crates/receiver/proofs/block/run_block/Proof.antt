@@ -2,6 +2,7 @@
 use mathlib.Core.Path.{_≡_, ap}
 use mathlib.Core.List.{List}
 use Prim.Native.Nat.{ℕ, _*_, _≤_}
+use native.Mathlib.Omega.{arith}
 use lib.ListN.{length}
 use Rattle.laws.proofs.Rules.{granted, picks}
 use Rattle.trace_records.specs.Filled.{recordNumbers}
@@ -56,13 +57,16 @@ unfolding runBlock
 returns-4 c = search (refused, picks)
 
 run-clocks-requires : tie.Need-run-clocks-requires
-run-clocks-requires c κs =
-    record {
-      well-formed = receiver-facts _ (search granted);
-      short = search needs;
-      room = search needs;
-      bits = search granted;
-    }
+run-clocks-requires c κs = (
+  record {
+    well-formed = receiver-facts _ (search granted);
+    within = omega arith;
+    few = omega arith;
+    short = search needs;
+    bits = search granted;
+  },
+  search needs,
+)
 
 same-length : tie.Need-same-length
 same-length c = search needs

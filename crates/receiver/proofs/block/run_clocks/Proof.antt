@@ -1,60 +1,37 @@
 -- `receiver::block::run_clocks` meets its contract. The invariant: the clocks still to come leave what all of them leave. Assumes nothing.
 use mathlib.Core.Path.{_≡_, refl, sym, ap, _∙_}
 use mathlib.Core.List.{List}
-use Prim.Native.Nat.{ℕ, _-_, _*_, _≤_, _<_}
+use Prim.Native.Nat.{ℕ, _-_}
 use native.Mathlib.Omega.{arith}
-use lib.ListN.{length, drop, drop-of-length-le}
-use Rattle.receiver_state.specs.WellFormed.{ReceiverFacts}
+use lib.ListN.{length, drop-of-length-le}
 use Rattle.fate.specs.Fate.{columnsOf}
-use Rattle.receiver.specs.Run.{clocksRun}
-use Rattle.receiver.proofs.InRange.{byte-below}
-use Rattle.receiver.proofs.Run.{clock-turn, turn-facts, turn-records}
+use Rattle.receiver.specs.Run.{clocksRun, Going, rest}
 use borrow.Author.Needs.{needs}
 use Rattle.receiver.proofs.block.run_clocks.Statement.{statement}
 use Rattle.receiver.proofs.block.run_clocks.Tie as tie
 
 abbrev Inv-loop : tie.InvT-loop
-Inv-loop block buffer₀ run₀ i₀ buffer run i =
-    (i ≤ length block) × (run .records ≤ i) × (length buffer ≡ length buffer₀) × (ReceiverFacts (run .receiver))
-    × (clocksRun columnsOf i run (drop i block) buffer ≡ clocksRun columnsOf 0 run₀ block buffer₀)
+Inv-loop block buffer₀ turn₀ buffer turn = (Going turn block) × (length buffer ≡ length buffer₀) × (rest columnsOf block turn buffer ≡ rest columnsOf block turn₀ buffer₀)
 
 abbrev μ-loop : tie.MeasureT-loop
-μ-loop block buffer₀ run₀ i₀ buffer run i = length block - i
+μ-loop block buffer₀ turn₀ buffer turn = length block - turn .next
 
 loop-holds : tie.Need-loop-holds Inv-loop μ-loop
-loop-holds c = (search needs, search needs, refl, c .before .before .pre .well-formed, refl)
+loop-holds c = (c .before .before .pre .0, refl, refl)
 
-cast-run-clock : tie.Need-cast-run-clock Inv-loop μ-loop
-cast-run-clock c = omega (arith, c .loop-test .taken, c .before .before .before .before .pre .short)
-
-shared-slice-read-run-clock : tie.Need-shared-slice-read-run-clock Inv-loop μ-loop
-shared-slice-read-run-clock c = search needs
-
-run-clock-requires : tie.Need-run-clock-requires Inv-loop μ-loop
-run-clock-requires c κs =
-    let turn = c .before .before .before .loop in
-    let checked = c .before .before .before .before .before .before .pre in
-    let here = c .before .before .loop-test .taken in
-    (turn .inv .3, byte-below _ (checked .bits) (turn .i) here, omega (arith, turn .inv .1, turn .inv .2, here, checked .room))
-
-add-i : tie.Need-add-i Inv-loop μ-loop
-add-i c = search needs
+run-turn-requires : tie.Need-run-turn-requires Inv-loop μ-loop
+run-turn-requires c κs =
+    let inv = c .before .before .before .loop .inv in
+    (inv .0, c .before .if1 .taken, omega (arith, inv .1, c .before .before .before .before .before .before .pre .1))
 
 loop-less : tie.Need-loop-less Inv-loop μ-loop
-loop-less c = search needs
+loop-less c = let turned = c .before .before .run-turn .ensures in omega (arith, turned .onward, turned .going .within)
 
 loop-again : tie.Need-loop-again Inv-loop μ-loop
 loop-again c =
-    let turn = c .before .before .before .before .before .before .loop in
-    let here = c .before .before .before .before .before .loop-test .taken in
-    let done = c .before .before .run-clock in
-    let block = c .before .before .before .before .before .before .before .before .before .args .block .now in (
-      search needs,
-      omega (arith, turn .inv .1, turn-records columnsOf block (turn .i) (turn .run) (turn .buffer) here (turn .inv .3) (done .result) _ (done .ensures)),
-      done .kept .1 .1 .1 .0 ∙ turn .inv .2,
-      turn-facts columnsOf block (turn .i) (turn .run) (turn .buffer) here (turn .inv .3) (done .result) _ (done .ensures),
-      clock-turn columnsOf block (turn .i) (turn .run) (turn .buffer) here (turn .inv .3) (done .result) _ (done .ensures) ∙ turn .inv .4,
-    )
+    let inv = c .before .before .before .before .before .before .loop .inv in
+    let turn = c .before .before .run-turn in
+    (turn .ensures .going, turn .kept .1 .1 .0 ∙ inv .1, turn .ensures .same ∙ inv .2)
 
 same-length : tie.Need-same-length Inv-loop μ-loop
 same-length c = search needs
@@ -62,9 +39,10 @@ same-length c = search needs
 returns : tie.Need-returns Inv-loop μ-loop
 unfolding clocksRun
 returns c =
-    let last = c .before .loop in
-    let block = c .before .before .before .before .args .block .now in
-    ap (λ (bytes : List ℕ). clocksRun columnsOf (last .i) (last .run) bytes (last .buffer)) (sym (drop-of-length-le block {i = last .i} (search needs))) ∙ last .inv .4
+    let last = c .before .before .before .loop in
+    let block = c .before .before .before .before .before .before .args .block .now in
+    ap (λ (bytes : List ℕ). clocksRun columnsOf (last .turn .next) (last .turn .run) bytes (last .buffer)) (sym (drop-of-length-le block {i = last .turn .next} (search needs)))
+    ∙ last .inv .2
 
 pub run-clocks-spec : {M : Type 1} → statement M
 run-clocks-spec =
@@ -73,10 +51,7 @@ run-clocks-spec =
     Inv-loop
     μ-loop
     loop-holds
-    cast-run-clock
-    shared-slice-read-run-clock
-    run-clock-requires
-    add-i
+    run-turn-requires
     loop-less
     loop-again
     same-length
