@@ -12,7 +12,8 @@ use lib.ListN.{length, take, drop, getD, length-append, length-drop, length-map,
 use lib.Seq.{length-take-le, take-suc, take-length, take-at, drop-at, getD-append-add}
 use Rattle.laws.proofs.Rules.{picked, picked-by, by-test}
 use Rattle.laws.proofs.Table.{all-entries}
-use Rattle.trace_records.specs.Filled.{recordNumbers, filledLength, filledPart}
+use Rattle.trace_records.specs.Record.{recordNumbers, traceRecord, numbersOf}
+use Rattle.trace_records.specs.Filled.{filledLength, filledPart}
 use Rattle.frame.specs.declared.Kind.{Kind}
 use Rattle.receiver_state.specs.declared.Receiver.{Receiver}
 use Rattle.receiver_state.specs.WellFormed.{wellFormed}
@@ -21,9 +22,9 @@ use Rattle.fate.specs.Fate.{columnsOf}
 use Rattle.fate.specs.Laws.{GoodTables}
 use Rattle.fate.proofs.Laws.{tables-good}
 use Rattle.receiver.specs.declared.ClockAnswer.{ClockAnswer}
-use Rattle.receiver.specs.declared.TraceRecord.{TraceRecord}
+use Rattle.trace_records.specs.declared.TraceRecord.{TraceRecord}
 use Rattle.receiver.specs.Laws.{ClockLaws}
-use Rattle.receiver.specs.Block.{triggerBit, channelBit, byteClock, SingleClock, singly, stateAfter, recorded, traceRecord, recordOf, recordsOf, numbersOf, allNumbers, blockRecords, BlockDone, refusedBlock, acceptedBlock, blockClocks, noByteOver3, runBlock}
+use Rattle.receiver.specs.Block.{triggerBit, channelBit, byteClock, SingleClock, singly, stateAfter, recorded, recordOf, recordsOf, allNumbers, blockRecords, BlockDone, refusedBlock, acceptedBlock, blockClocks, noByteOver3, runBlock}
 use Rattle.receiver.proofs.Laws.{clock-theorem}
 use Rattle.receiver.proofs.InRange.{byte-below}
 use Rattle.receiver.proofs.Run.{five-each, one-a-clock}

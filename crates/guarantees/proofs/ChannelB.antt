@@ -9,7 +9,7 @@ use borrow.Author.Tests.{eqb-true}
 use Rattle.laws.proofs.Rules.{picked-by}
 use Rattle.frame.specs.declared.Kind.{Kind}
 use Rattle.frame.specs.Numbers.{frameBits}
-use Rattle.receiver.specs.WholeFrame.{bitsOf}
+use Rattle.whole_frame.specs.WholeFrame.{bitsOf}
 use Rattle.guarantees.specs.Calls.{Call, clock, read, write, refusalOf, carried, channelB, idleCall, idle}
 use Rattle.guarantees.proofs.HeldBits.{Bits, lead, by-lead}
 use Rattle.guarantees.proofs.OneCall.{accepted-bits}

@@ -13,7 +13,7 @@ use Rattle.fate.specs.Fate.{upTo, doubleUp, cleared, stored, fate, countErrors,
 use Rattle.receiver.specs.TakeBit.{frameOrPart, takeBit}
 use Rattle.receiver.specs.IdleClock.{countClock, continued, started, busStep, idleClock}
 use Rattle.receiver.specs.Clock.{stepAnswer, clockAnswer}
-use Rattle.receiver.specs.WholeFrame.{bitsOf}
+use Rattle.whole_frame.specs.WholeFrame.{bitsOf}
 use Rattle.registers.specs.Map.{oneOf, inMap, registerByte, readOnly, configWrong, written}
 use Rattle.registers.specs.Access.{readRefusal, readAnswer, writeRefusal, writeAnswer}
 use Rattle.guarantees.specs.Calls.{call, run, answers, refusalOf, carried, channelB}

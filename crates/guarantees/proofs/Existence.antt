@@ -11,7 +11,7 @@ use lib.ListN.{length, length-append}
 use Rattle.frame.specs.declared.Kind.{Kind}
 use Rattle.frame.specs.declared.Kind.the-variants.{Short, Long}
 use Rattle.frame.specs.Numbers.{frameBits}
-use Rattle.receiver.specs.WholeFrame.{bitsOf}
+use Rattle.whole_frame.specs.WholeFrame.{bitsOf}
 use Rattle.guarantees.specs.Calls.{Call, clock, read, write, refusalOf, carried, channelB, idleCall, idle}
 use Rattle.guarantees.specs.FrameLists.{SameCalls}
 use Rattle.guarantees.specs.Existence.{carry, ListsExist}

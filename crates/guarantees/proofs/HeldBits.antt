@@ -24,7 +24,7 @@ use Rattle.receiver.specs.Laws.{firstBits, bitAfter}
 use Rattle.receiver.proofs.TakeBit.{TakenFacts, taken-facts}
 use Rattle.receiver.proofs.Bits.{bit-law}
 use Rattle.receiver.proofs.Laws.{none-held}
-use Rattle.receiver.specs.WholeFrame.{bitsOf}
+use Rattle.whole_frame.specs.WholeFrame.{bitsOf}
 use Rattle.guarantees.specs.FrameLists.{ones}
 
 -- ---- the bits held after a list of bits

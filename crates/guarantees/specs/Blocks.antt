@@ -6,15 +6,16 @@ use mathlib.Core.Logic.{_≢_, _⊎_, _↔_}
 use mathlib.Core.Bool.{true, false, cond}
 use mathlib.Core.List.{List, [], _∷_, _++_, map}
 use lib.ListN.{length, take, drop, getD}
-use Rattle.trace_records.specs.Filled.{recordNumbers, filledPart}
+use Rattle.trace_records.specs.Record.{recordNumbers, traceRecord}
+use Rattle.trace_records.specs.Filled.{filledPart}
 use Rattle.frame.specs.declared.Kind.{Kind}
 use Rattle.receiver_state.specs.declared.Receiver.{Receiver}
 use Rattle.receiver_state.specs.WellFormed.{wellFormed}
 use Rattle.fate.specs.declared.Outputs.{Outputs}
 use Rattle.fate.specs.Fate.{columnsOf}
 use Rattle.fate.specs.Laws.{GoodTables}
-use Rattle.receiver.specs.declared.TraceRecord.{TraceRecord}
-use Rattle.receiver.specs.Block.{triggerBit, channelBit, recorded, traceRecord, allNumbers, BlockDone, refusedBlock, blockClocks, runBlock}
+use Rattle.trace_records.specs.declared.TraceRecord.{TraceRecord}
+use Rattle.receiver.specs.Block.{triggerBit, channelBit, recorded, allNumbers, BlockDone, refusedBlock, blockClocks, runBlock}
 use Rattle.guarantees.specs.Calls.{Call, clock, call, run}
 
 -- ---- the clocks of a block as a list of calls

@@ -13,7 +13,7 @@ use Rattle.receiver_state.specs.State.{ids, holding, receiver, freshCore, fresh
 use Rattle.receiver_state.specs.WellFormed.{wellFormed}
 use Rattle.fate.specs.Fate.{columnsOf}
 use Rattle.receiver.specs.TakeBit.{Waits}
-use Rattle.receiver.specs.WholeFrame.{bitsOf}
+use Rattle.whole_frame.specs.WholeFrame.{bitsOf}
 use Rattle.guarantees.specs.Calls.{Call, clock, read, write, CallAnswer, run, answers, channelB}
 use Rattle.guarantees.specs.FrameLists.{ones}
 use Rattle.guarantees.specs.Existence.{carry}

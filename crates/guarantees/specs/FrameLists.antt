@@ -10,7 +10,7 @@ use Rattle.frame.specs.Numbers.{frameBits}
 use Rattle.receiver_state.specs.declared.Receiver.{Receiver}
 use Rattle.receiver_state.specs.WellFormed.{wellFormed}
 use Rattle.receiver.specs.TakeBit.{Waits}
-use Rattle.receiver.specs.WholeFrame.{bitsOf}
+use Rattle.whole_frame.specs.WholeFrame.{bitsOf}
 use Rattle.guarantees.specs.Calls.{Call, clock, CallAnswer, CallResult, call, run, answers, refusalOf, channelB, idle}
 
 -- so many ones

@@ -10,7 +10,7 @@ use Rattle.fate.specs.Fate.{upTo, doubleUp, cleared, stored, foreign, fate, cou
 use Rattle.receiver.specs.TakeBit.{frameOrPart, takeBit}
 use Rattle.receiver.specs.IdleClock.{countClock, continued, started, busStep, idleClock}
 use Rattle.receiver.specs.Clock.{stepAnswer, clockAnswer}
-use Rattle.receiver.specs.WholeFrame.{bitsOf, clocksAnswer, receiveAnswer}
+use Rattle.whole_frame.specs.WholeFrame.{bitsOf, clocksAnswer, receiveAnswer}
 use Rattle.stored_line.specs.Digits.{digitValue, allDigits, hexNumber, hexAnswer, digitCharacter, hexDigits}
 use Rattle.stored_line.specs.Read.{readLine}
 use Rattle.line_report.specs.Text.{decimalUpTo, decimal, wordText, fateText, refusalText, answerText, lineText}

@@ -18,13 +18,13 @@ use part::read_behind;
 use part::read_part;
 use part::with_characters;
 use receiver::ClockAnswer;
-use receiver::receive_frame;
 use receiver::refuse_clock;
 use receiver_state::Receiver;
 use receiver_state::fresh;
 use stored_line::StoredLine;
 use text::put_end;
 use text::put_line;
+use whole_frame::receive_frame;
 
 mod part;
 mod text;

@@ -1,9 +1,7 @@
 pub mod TakeBit
 pub mod Bits
-pub mod WholeFrame
 pub mod Unchecked
 pub mod Keep
-pub mod AtOnce
 pub mod Records
 pub mod InRange
 pub mod Run
@@ -11,4 +9,3 @@ pub mod Quiet
 mod BusSequence
 mod Advance
 pub mod Laws
-pub mod WholeFrameLaw

@@ -5,9 +5,8 @@ use Prim.Native.Nat.{ℕ, _+_, _-_, _≤_}
 use native.Mathlib.Omega.{arith}
 use lib.ListN.{length, take, drop, set, length-drop, drop-of-length-le}
 use lib.Seq.{sets, sets-eq, take-all, drop-drop}
-use Rattle.trace_records.specs.Filled.{recordNumbers}
-use Rattle.receiver.specs.declared.TraceRecord.{TraceRecord}
-use Rattle.receiver.specs.Block.{numbersOf}
+use Rattle.trace_records.specs.Record.{recordNumbers, numbersOf}
+use Rattle.trace_records.specs.declared.TraceRecord.{TraceRecord}
 
 -- five numbers stored one by one at the front
 pub five-set : (l : List ℕ) (a b c d e : ℕ) → recordNumbers ≤ length l → set (set (set (set (set l 0 a) 1 b) 2 c) 3 d) 4 e ≡ (a ∷ b ∷ c ∷ d ∷ e ∷ []) ++ drop recordNumbers l

@@ -13,7 +13,7 @@ use lib.ListN.{length, getD, drop, length-append, drop-of-length-le}
 use lib.Seq.{sets, drop-cons}
 use Rattle.laws.proofs.Rules.{picked, pick-yes, pick-no, by-test}
 use Rattle.laws.proofs.Sets.{sets-append, sets-front}
-use Rattle.trace_records.specs.Filled.{recordNumbers}
+use Rattle.trace_records.specs.Record.{recordNumbers, traceRecord, numbersOf}
 use Rattle.frame.specs.declared.Kind.{Kind}
 use Rattle.receiver_state.specs.declared.Core.{Core}
 use Rattle.receiver_state.specs.declared.Held.{Held}
@@ -26,11 +26,11 @@ use Rattle.fate.specs.Fate.{columnsOf}
 use Rattle.fate.specs.Laws.{finishedBy}
 use Rattle.fate.proofs.Laws.{fate-theorem, tables-good}
 use Rattle.receiver.specs.declared.ClockAnswer.{ClockAnswer}
-use Rattle.receiver.specs.declared.TraceRecord.{TraceRecord}
+use Rattle.trace_records.specs.declared.TraceRecord.{TraceRecord}
 use Rattle.receiver.specs.declared.Running.{Running}
 use Rattle.receiver.specs.IdleClock.{idleClock}
 use Rattle.receiver.specs.Clock.{clockedAnswer, stepAnswer}
-use Rattle.receiver.specs.Block.{triggerBit, channelBit, byteClock, SingleClock, singly, stateAfter, recorded, traceRecord, recordOf, recordsOf, numbersOf, allNumbers, BlockDone, blockDone, blockAnswer, acceptedBlock}
+use Rattle.receiver.specs.Block.{triggerBit, channelBit, byteClock, SingleClock, singly, stateAfter, recorded, recordOf, recordsOf, allNumbers, BlockDone, blockDone, blockAnswer, acceptedBlock}
 use Rattle.receiver.specs.Run.{RunDone, runDone, leaves, withRecord, answeredRun, clocksRun}
 use Rattle.receiver.proofs.Unchecked.{step-is-clock}
 use Rattle.receiver.proofs.Keep.{step-facts}

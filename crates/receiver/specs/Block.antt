@@ -1,18 +1,17 @@
--- Document 02, Q-3: a block of clocks in one call, by the definition of a single clock. `TraceRecord` and `BlockAnswer` are structs of src/lib.rt.
-use Prim.Native.Nat.{ℕ, suc, _+_, _*_, _/_, _%_}
+-- Document 02, Q-3: a block of clocks in one call, by the definition of a single clock. `BlockAnswer` is a struct of src/lib.rt.
+use Prim.Native.Nat.{ℕ, suc, _*_, _/_, _%_}
 use mathlib.Core.Bool.{Bool, cond, not, _||_}
 use mathlib.Core.List.{List, [], _∷_, _++_}
 use lib.Dec.{eqb, ltb, leb}
 use lib.ListN.{length, drop}
 use Rattle.laws.specs.Table.{everyEntry}
-use Rattle.trace_records.specs.Filled.{recordNumbers}
 use Rattle.frame.specs.declared.Kind.{Kind}
-use Rattle.receiver_state.specs.declared.Counters.{Counters}
 use Rattle.receiver_state.specs.declared.Receiver.{Receiver}
 use Rattle.receiver_state.specs.WellFormed.{wellFormed}
 use Rattle.fate.specs.declared.Outputs.{Outputs}
+use Rattle.trace_records.specs.declared.TraceRecord.{TraceRecord}
+use Rattle.trace_records.specs.Record.{traceRecord, recordNumbers, numbersOf}
 use Rattle.receiver.specs.declared.ClockAnswer.{ClockAnswer}
-use Rattle.receiver.specs.declared.TraceRecord.{TraceRecord}
 use Rattle.receiver.specs.declared.BlockAnswer.{BlockAnswer}
 use Rattle.receiver.specs.Clock.{clockAnswer}
 
@@ -51,25 +50,13 @@ stateAfter columns r (byte ∷ bytes) = stateAfter columns (byteClock columns r 
 unfoldable pub recorded : Outputs → Bool
 recorded shown = not (eqb (shown .trigger) 0) || not (eqb (shown .verdict) 0)
 
--- "a code (verdict + 16 corrected + 32 trigger + 64 missed)"
-abbrev pub codeOf : Outputs → ℕ
-codeOf shown = shown .verdict + 16 * shown .corrected + 32 * shown .trigger + 64 * shown .missed
-
--- "place in the block (from 0), bunch and event counts before the clock, a code .., the word"
-abbrev pub traceRecord : ℕ → Counters → Outputs → TraceRecord
-traceRecord place before shown =
-    record { place = place; bunch = before .bunch; event = before .event; code = codeOf shown; word = shown .word }
-
+-- read off the clock, with the counts before it
 abbrev pub recordOf : SingleClock → TraceRecord
 recordOf clock = traceRecord (clock .place) (clock .before .core .counters) (clock .answer .outputs)
 
 unfoldable pub recordsOf : List SingleClock → List TraceRecord
 recordsOf [] = []
 recordsOf (clock ∷ clocks) = cond (recorded (clock .answer .outputs)) (recordOf clock ∷ recordsOf clocks) (recordsOf clocks)
-
--- "five 32-bit numbers"
-abbrev pub numbersOf : TraceRecord → List ℕ
-numbersOf one = one .place ∷ one .bunch ∷ one .event ∷ one .code ∷ one .word ∷ []
 
 -- "Each record goes behind the last"
 unfoldable pub allNumbers : List TraceRecord → List ℕ

@@ -1,7 +1,6 @@
 pub mod TakeBit
 pub mod IdleClock
 pub mod Clock
-pub mod WholeFrame
 pub mod Block
 pub mod Run
 pub mod StepLaws

@@ -5,17 +5,17 @@ use mathlib.Core.Bool.{true, cond}
 use mathlib.Core.List.{List, [], _∷_}
 use lib.ListN.{length, drop}
 use lib.Seq.{sets}
-use Rattle.trace_records.specs.Filled.{recordNumbers}
+use Rattle.trace_records.specs.Record.{recordNumbers, numbersOf}
 use Rattle.frame.specs.declared.Kind.{Kind}
 use Rattle.receiver_state.specs.declared.Held.{Held}
 use Rattle.receiver_state.specs.declared.Receiver.{Receiver}
 use Rattle.receiver_state.specs.State.{counters, receiver, withCounters}
 use Rattle.receiver.specs.declared.ClockAnswer.{ClockAnswer}
-use Rattle.receiver.specs.declared.TraceRecord.{TraceRecord}
+use Rattle.trace_records.specs.declared.TraceRecord.{TraceRecord}
 use Rattle.receiver.specs.declared.Running.{Running}
 use Rattle.receiver.specs.declared.Turn.{Turn}
 use Rattle.receiver_state.specs.WellFormed.{ReceiverFacts}
-use Rattle.receiver.specs.Block.{byteClock, recorded, recordOf, numbersOf, blockClocks, noByteOver3}
+use Rattle.receiver.specs.Block.{byteClock, recorded, recordOf, blockClocks, noByteOver3}
 
 -- `Running`, and the whole buffer
 pub record RunDone : Type 0 where

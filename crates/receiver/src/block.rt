@@ -8,28 +8,27 @@ ghost use mathlib.Core.Path.{_≡_};
 ghost use mathlib.Core.List.{_++_};
 ghost use Prim.Native.Nat.{_+_, _*_, _<_, _≤_};
 ghost use lib.ListN.{length, drop};
-ghost use Rattle.trace_records.specs.Filled.{recordNumbers};
+ghost use Rattle.trace_records.specs.Record.{recordNumbers, numbersOf};
 ghost use Rattle.receiver_state.specs.State.{nothingHeld};
 ghost use Rattle.receiver_state.specs.WellFormed.{CountersFacts, CoreFacts, ReceiverFacts};
 ghost use Rattle.fate.specs.Fate.{columnsOf, finishedAnswer, finished};
 ghost use Rattle.receiver.specs.IdleClock.{idleClock};
 ghost use Rattle.receiver.specs.Clock.{clockedAnswer, stepAnswer};
-ghost use Rattle.receiver.specs.Block.{triggerBit, channelBit, traceRecord, numbersOf, blockDone, blockAnswer, blockClocks, noByteOver3, runBlock};
+ghost use Rattle.receiver.specs.Block.{triggerBit, channelBit, blockDone, blockAnswer, blockClocks, noByteOver3, runBlock};
 ghost use Rattle.receiver.specs.Run.{leaves, withRecord, answeredRun, clocksRun, firstTurn, Going, quietRun, Quiet, Turned};
 use crate::BlockAnswer;
 use crate::Running;
 use crate::Taken;
-use crate::TraceRecord;
 use crate::Turn;
 use crate::channel_b::take_bit;
 use crate::idle::idle_clock;
-use fate::Outputs;
 use fate::finish;
 use frame::Kind;
-use receiver_state::Counters;
 use receiver_state::Held;
 use receiver_state::Receiver;
 use receiver_state::well_formed;
+use trace_records::TraceRecord;
+use trace_records::record_of;
 
 // Whether no byte is over 3. Quotients are summed and tested once, so that the loop has no exit of
 // its own and many bytes are taken at a time.
@@ -44,21 +43,6 @@ fn no_byte_over_3(block: &[u8]) -> bool
         i += 1;
     }
     over == 0
-}
-
-fn record_of(place: u32, before: Counters, outputs: Outputs) -> TraceRecord
-    ensures { λ r. ⌜ r ≡ traceRecord place before outputs ⌝ }
-{
-    TraceRecord {
-        place,
-        bunch: before.bunch as u32,
-        event: before.event,
-        code: outputs.verdict as u32
-            + 16 * outputs.corrected as u32
-            + 32 * outputs.trigger as u32
-            + 64 * outputs.missed as u32,
-        word: outputs.word,
-    }
 }
 
 // Writes a record to the front of what is left of the buffer.

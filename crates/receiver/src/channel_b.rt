@@ -3,7 +3,7 @@
 ghost use mathlib.Core.Path.{_≡_};
 ghost use Prim.Native.Nat.{_<_};
 ghost use Rattle.receiver_state.specs.WellFormed.{HeldFacts};
-ghost use Rattle.receiver.specs.TakeBit.{frameOrPart, takeBit, heldAfter};
+ghost use Rattle.receiver.specs.TakeBit.{frameOrPart, takeBit};
 use crate::Taken;
 use frame::Kind;
 use receiver_state::Held;
@@ -42,14 +42,4 @@ pub(crate) fn take_bit(held: Held, bit: u8) -> Taken
         return Taken::Unfinished(held);
     }
     frame_or_part(held.count + 1, held.bits * 2 + bit as u64)
-}
-
-// A finished frame leaves none.
-pub(crate) fn held_after(taken: Taken) -> Held
-    ensures { λ r. ⌜ r ≡ heldAfter taken ⌝ }
-{
-    match taken {
-        Taken::Unfinished(held) => held,
-        Taken::Finished { kind, number } => Held { count: 0, bits: 0 },
-    }
 }

@@ -4,7 +4,8 @@ use native.Mathlib.Omega.{arith}
 use borrow.Author.Tests.{leb-true}
 use lib.Dec.{leb}
 use Rattle.laws.proofs.Rules.{picked-by}
-use Rattle.trace_records.specs.Filled.{recordNumbers, filledLength}
+use Rattle.trace_records.specs.Record.{recordNumbers}
+use Rattle.trace_records.specs.Filled.{filledLength}
 
 pub within : (room records : ℕ) → filledLength room records ≤ room
 unfolding filledLength

@@ -5,10 +5,7 @@ use mathlib.Core.Bool.{cond}
 use mathlib.Core.List.{List}
 use lib.Dec.{leb}
 use lib.ListN.{length, take}
-
--- "five 32-bit numbers" a record
-abbrev pub recordNumbers : ℕ
-recordNumbers = 5
+use Rattle.trace_records.specs.Record.{recordNumbers}
 
 -- how many numbers so many records are, in a buffer of that length; none where they are more than it has
 unfoldable pub filledLength : ℕ → ℕ → ℕ

@@ -13,7 +13,7 @@ ghost use Rattle.receiver_state.specs.State.{freshAnswer};
 ghost use Rattle.receiver_state.specs.WellFormed.{wellFormed};
 ghost use Rattle.fate.specs.Fate.{columnsOf};
 ghost use Rattle.receiver.specs.Clock.{clockAnswer};
-ghost use Rattle.receiver.specs.WholeFrame.{receiveAnswer};
+ghost use Rattle.whole_frame.specs.WholeFrame.{receiveAnswer};
 ghost use Rattle.receiver.specs.Block.{blockDone, runBlock};
 ghost use Rattle.trace_records.specs.Filled.{filledLength};
 ghost use Rattle.registers.specs.Access.{readAnswer, writeAnswer};
@@ -37,7 +37,6 @@ use line_report::start_report;
 use receiver::ClockAnswer;
 use receiver::block::run_block;
 use receiver::clock;
-use receiver::receive_frame;
 use receiver_state::FreshAnswer;
 use receiver_state::Receiver;
 use receiver_state::fresh;
@@ -52,6 +51,7 @@ use stored_line::line_answer;
 use stored_line::read_line;
 use stored_line::write_line;
 use trace_records::filled_length;
+use whole_frame::receive_frame;
 
 // What a block answers a caller who lends the receiver.
 #[repr(C)]

@@ -1,37 +1,63 @@
--- `receiver::step` meets its contract: the bits held, and the table on steps 1 and 2, meet here. Assumes nothing.
-use Rattle.receiver.specs.Clock.{stepAnswer}
+-- `receiver::step` meets its contract: it goes by what the bit leaves. Assumes nothing.
+use mathlib.Core.Path.{sym, ap, _∙_}
+use Rattle.receiver_state.specs.State.{nothingHeld}
+use Rattle.fate.specs.Fate.{columnsOf}
+use Rattle.receiver.specs.Clock.{clockedAnswer}
+use Rattle.receiver.proofs.Unchecked.{unfinished-step, finished-step}
 use borrow.Author.Needs.{needs}
 use Rattle.receiver.proofs.step.Statement.{statement}
 use Rattle.receiver.proofs.step.Tie as tie
 
-idle-clock-requires : tie.Need-idle-clock-requires
-idle-clock-requires c κs = search needs
-
 take-bit-requires : tie.Need-take-bit-requires
 take-bit-requires c κs = search needs
 
-held-after-requires : tie.Need-held-after-requires
-held-after-requires c κs = search needs
+enum-known-taken : tie.Need-enum-known-taken
+enum-known-taken c = search needs
 
-apply-frame-requires : tie.Need-apply-frame-requires
-apply-frame-requires c κs = search needs
+idle-clock-requires : tie.Need-idle-clock-requires
+idle-clock-requires c κs = search needs
+
+answered-requires : tie.Need-answered-requires
+answered-requires c κs = search needs
+
+enum-known-taken-2 : tie.Need-enum-known-taken-2
+enum-known-taken-2 c = search needs
+
+idle-clock-requires-2 : tie.Need-idle-clock-requires-2
+idle-clock-requires-2 c κs = search needs
+
+finish-requires : tie.Need-finish-requires
+finish-requires c κs = search needs
+
+answered-requires-2 : tie.Need-answered-requires-2
+answered-requires-2 c κs = search needs
 
 returns : tie.Need-returns
-unfolding stepAnswer
 returns c =
-    cc (
-      c .before .before .apply-frame .ensures,
-      c .before .before .before .held-after .ensures,
-      c .before .before .before .before .take-bit .ensures,
-      c .before .before .before .before .before .idle-clock .ensures,
-    )
+    let bit = c .before .before .before .before .before in
+    let given = bit .before .args in
+    c .answered .ensures ∙ ap (clockedAnswer _) (c .before .idle-clock .ensures)
+    ∙ sym (unfinished-step columnsOf (given .receiver) (given .trigger) (given .«data») _ (sym (bit .take-bit .ensures) ∙ c .before .before .before .taken .given .1))
+
+returns-2 : tie.Need-returns-2
+returns-2 c =
+    let bit = c .before .before .before .before .before .before in
+    let given = bit .before .args in
+    c .answered2 .ensures
+    ∙ ap (clockedAnswer nothingHeld) (rw (c .before .before .idle-clock2 .ensures) at (c .before .finish .ensures))
+    ∙ sym (finished-step columnsOf (given .receiver) (given .trigger) (given .«data») _ _ (sym (bit .take-bit .ensures) ∙ c .before .before .before .before .taken2 .given .1))
 
 pub step-spec : {M : Type 1} → statement M
 step-spec =
     tie.close
     (tie.spec
-    idle-clock-requires
     take-bit-requires
-    held-after-requires
-    apply-frame-requires
-    returns)
+    enum-known-taken
+    idle-clock-requires
+    answered-requires
+    enum-known-taken-2
+    idle-clock-requires-2
+    finish-requires
+    answered-requires-2
+    returns
+    returns-2)

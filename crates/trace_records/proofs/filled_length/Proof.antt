@@ -2,7 +2,8 @@
 use Prim.Native.Nat.{_*_, _≤_, _<_}
 use native.Mathlib.Omega.{arith}
 use borrow.Author.Tests.{le-leb, lt-leb}
-use Rattle.trace_records.specs.Filled.{recordNumbers, filledLength}
+use Rattle.trace_records.specs.Record.{recordNumbers}
+use Rattle.trace_records.specs.Filled.{filledLength}
 use borrow.Author.Needs.{needs}
 use Rattle.trace_records.proofs.filled_length.Statement.{statement}
 use Rattle.trace_records.proofs.filled_length.Tie as tie

@@ -5,7 +5,7 @@ use Prim.Native.Nat.{ℕ, _*_, _≤_}
 use native.Mathlib.Omega.{arith}
 use lib.ListN.{length}
 use Rattle.laws.proofs.Rules.{granted, picks}
-use Rattle.trace_records.specs.Filled.{recordNumbers}
+use Rattle.trace_records.specs.Record.{recordNumbers}
 use Rattle.receiver_state.proofs.WellFormed.{receiver-facts}
 use Rattle.fate.specs.Fate.{columnsOf}
 use Rattle.receiver.specs.declared.BlockAnswer.{BlockAnswer}

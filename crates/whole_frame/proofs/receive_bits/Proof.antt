@@ -1,22 +1,19 @@
 -- `receiver::receive_bits` meets its contract. The invariant: the clocks still to come, on what the last one answered, answer as all of them.
 -- Assumes nothing.
 use mathlib.Core.Path.{_≡_, refl, sym, ap, _∙_}
-use Prim.Native.Nat.{ℕ, suc, _-_, _≤_, _<_}
+use Prim.Native.Nat.{ℕ, suc, _-_, _≤_}
 use native.Mathlib.Omega.{arith}
 use borrow.Author.Needs.{needs}
-use Rattle.receiver_state.specs.WellFormed.{ReceiverFacts}
 use Rattle.fate.specs.Fate.{columnsOf}
 use Rattle.receiver.specs.declared.ClockAnswer.{ClockAnswer}
-use Rattle.receiver.specs.WholeFrame.{bitsOf, clocksAnswer}
-use Rattle.receiver.proofs.Keep.{step-facts}
-use Rattle.receiver.proofs.WholeFrame.{clock-more}
-use Rattle.receiver.proofs.receive_bits.Statement.{statement}
-use Rattle.receiver.proofs.receive_bits.Tie as tie
+use Rattle.whole_frame.specs.WholeFrame.{bitsOf, clocksAnswer}
+use Rattle.whole_frame.proofs.WholeFrame.{clock-more}
+use Rattle.whole_frame.proofs.receive_bits.Statement.{statement}
+use Rattle.whole_frame.proofs.receive_bits.Tie as tie
 
 abbrev Inv-loop : tie.InvT-loop
 Inv-loop count number answer₀ left₀ answer left =
-    (left ≤ 64) × (ReceiverFacts (answer .receiver))
-    × (clocksAnswer columnsOf answer (bitsOf left number) ≡ clocksAnswer columnsOf answer₀ (bitsOf count number))
+    (left ≤ 64) × (clocksAnswer columnsOf answer (bitsOf left number) ≡ clocksAnswer columnsOf answer₀ (bitsOf count number))
 
 abbrev μ-loop : tie.MeasureT-loop
 μ-loop count number answer₀ left₀ answer left = left
@@ -25,7 +22,7 @@ refuse-clock-requires : tie.Need-refuse-clock-requires Inv-loop μ-loop
 refuse-clock-requires c κs = search needs
 
 loop-holds : tie.Need-loop-holds Inv-loop μ-loop
-loop-holds c = (search needs, rw (c .refuse-clock .ensures) (c .before .pre .0), refl)
+loop-holds c = (search needs, refl)
 
 sub-left : tie.Need-sub-left Inv-loop μ-loop
 sub-left c = search needs
@@ -33,8 +30,8 @@ sub-left c = search needs
 bit-at-requires : tie.Need-bit-at-requires Inv-loop μ-loop
 bit-at-requires c κs = search needs
 
-step-requires : tie.Need-step-requires Inv-loop μ-loop
-step-requires c κs = (c .before .before .loop .inv .1, search needs, omega (arith, c .bit-at .ensures))
+clock-requires : tie.Need-clock-requires Inv-loop μ-loop
+clock-requires c κs = search needs
 
 loop-less : tie.Need-loop-less Inv-loop μ-loop
 loop-less c = search needs
@@ -43,12 +40,10 @@ loop-again : tie.Need-loop-again Inv-loop μ-loop
 loop-again c =
     let turn = c .before .before .before .loop in
     let bit = c .before .bit-at in
-    let some : suc (turn .left - 1) ≡ turn .left = omega (arith, c .before .before .loop-test .taken) in
-    let small : bit .result < 2 = omega (arith, bit .ensures) in (
+    let some : suc (turn .left - 1) ≡ turn .left = omega (arith, c .before .before .loop-test .taken) in (
       omega (arith, turn .inv .0),
-      rw (c .step .ensures) (step-facts columnsOf (turn .answer .receiver) 0 (bit .result) (turn .inv .1) small),
-      clock-more columnsOf (turn .answer) (c .step .result) (turn .left - 1) _ (bit .result) (turn .inv .1) (bit .ensures) (c .step .ensures)
-          ∙ ap (λ (n : ℕ). clocksAnswer columnsOf (turn .answer) (bitsOf n (c .before .before .before .before .before .args .number))) some ∙ turn .inv .2,
+      clock-more columnsOf (turn .answer) (c .clock .result) (turn .left - 1) _ (bit .result) (bit .ensures) (c .clock .ensures)
+          ∙ ap (λ (n : ℕ). clocksAnswer columnsOf (turn .answer) (bitsOf n (c .before .before .before .before .before .args .number))) some ∙ turn .inv .1,
     )
 
 returns : tie.Need-returns Inv-loop μ-loop
@@ -57,7 +52,7 @@ returns c =
     let done = c .before .loop in
     let none : done .left ≡ 0 = omega (arith, c .loop-test .left) in
     let start = c .before .before in
-    rw none at (done .inv .2)
+    rw none at (done .inv .1)
     ∙ ap (λ (a : ClockAnswer). clocksAnswer columnsOf a (bitsOf (start .before .args .count) (start .before .args .number))) (start .refuse-clock .ensures)
 
 pub receive-bits-spec : {M : Type 1} → statement M
@@ -70,7 +65,7 @@ receive-bits-spec =
     loop-holds
     sub-left
     bit-at-requires
-    step-requires
+    clock-requires
     loop-less
     loop-again
     returns)

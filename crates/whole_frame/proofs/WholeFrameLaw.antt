@@ -12,13 +12,13 @@ use Rattle.receiver_state.proofs.WellFormed.{receiver-facts}
 use Rattle.fate.specs.Fate.{columnsOf}
 use Rattle.fate.specs.Laws.{GoodTables}
 use Rattle.fate.proofs.Laws.{fate-theorem, tables-good}
 use Rattle.receiver.specs.declared.ClockAnswer.{ClockAnswer}
 use Rattle.receiver.specs.TakeBit.{Waits}
 use Rattle.receiver.specs.Clock.{clockAnswer}
-use Rattle.receiver.specs.WholeFrame.{bitsOf, clocksAnswer, noClock, receiveAnswer, HasItsFate, SomeVerdict, WholeFrameLaw, WholeFrameTheorem, ReceiverWholeFrames}
+use Rattle.whole_frame.specs.WholeFrame.{bitsOf, clocksAnswer, noClock, receiveAnswer, HasItsFate, SomeVerdict, WholeFrameLaw, WholeFrameTheorem, ReceiverWholeFrames}
 use Rattle.receiver.proofs.Bits.{bit-law}
-use Rattle.receiver.proofs.AtOnce.{at-once}
+use Rattle.whole_frame.proofs.AtOnce.{at-once}
 use Rattle.receiver.proofs.Laws.{clock-theorem}
 
 module _ (columns : Kind → List ℕ) (good : GoodTables columns) where
   has-its-fate : HasItsFate columns

@@ -21,19 +21,19 @@ use Rattle.receiver_state.specs.State.{counters, noSequence, holding, nothingHe
 use Rattle.receiver_state.specs.WellFormed.{CoreFacts, HeldFacts, ReceiverFacts}
 use Rattle.fate.specs.declared.Clocked.{Clocked}
 use Rattle.fate.specs.Laws.{finishedBy}
 use Rattle.receiver.specs.declared.Bus.{Bus}
 use Rattle.receiver.specs.declared.ClockAnswer.{ClockAnswer}
 use Rattle.receiver.specs.declared.Taken.{Taken}
 use Rattle.receiver.specs.declared.Taken.the-variants.{Unfinished, Finished}
 use Rattle.receiver.specs.TakeBit.{takeBit, heldAfter}
 use Rattle.receiver.specs.IdleClock.{countClock, continued, started, busStep, busOf, idleClock}
 use Rattle.receiver.specs.Clock.{noOutputs, clockedAnswer, clockAnswer}
 use Rattle.receiver.specs.Laws.{firstBits, bitAfter}
-use Rattle.receiver.specs.WholeFrame.{bitsOf, clocksAnswer, noClock, stillClocked}
+use Rattle.whole_frame.specs.WholeFrame.{bitsOf, clocksAnswer, noClock, stillClocked}
 use Rattle.receiver.proofs.Bits.{bit-law}
 use Rattle.receiver.proofs.Keep.{step-facts}
 use Rattle.receiver.proofs.Unchecked.{step-is-clock, unfinished-step, finished-step}
-use Rattle.receiver.proofs.WholeFrame.{first-bit}
+use Rattle.whole_frame.proofs.WholeFrame.{first-bit}
 
 -- ---- clocks without triggers and without a frame
 

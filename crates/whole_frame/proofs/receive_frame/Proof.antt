@@ -9,10 +9,10 @@ use Rattle.frame.specs.Numbers.{frameBits, isFrame}
 use Rattle.receiver_state.specs.WellFormed.{wellFormed}
 use Rattle.receiver_state.proofs.WellFormed.{receiver-facts}
 use Rattle.fate.specs.Fate.{columnsOf}
-use Rattle.receiver.specs.WholeFrame.{bitsOf, clocksAnswer, noClock, receiveAnswer}
+use Rattle.whole_frame.specs.WholeFrame.{bitsOf, clocksAnswer, noClock, receiveAnswer}
 use borrow.Author.Needs.{needs}
-use Rattle.receiver.proofs.receive_frame.Statement.{statement}
-use Rattle.receiver.proofs.receive_frame.Tie as tie
+use Rattle.whole_frame.proofs.receive_frame.Statement.{statement}
+use Rattle.whole_frame.proofs.receive_frame.Tie as tie
 
 few : (kind : Kind) → frameBits kind ≤ 64
 few Short = omega arith
@@ -52,7 +52,7 @@ frame-bits-requires : tie.Need-frame-bits-requires
 frame-bits-requires c κs = search needs
 
 receive-bits-requires : tie.Need-receive-bits-requires
-receive-bits-requires c κs = (receiver-facts _ (granted _ _ (c .before .before .before .before .before .before .well-formed .ensures) (c .before .before .before .before .before .if1 .left)), rw (c .frame-bits .ensures) (few (c .before .before .before .before .before .before .before .args .kind)))
+receive-bits-requires c κs = rw (c .frame-bits .ensures) (few (c .before .before .before .before .before .before .before .args .kind))
 
 returns-4 : tie.Need-returns-4
 unfolding receiveAnswer

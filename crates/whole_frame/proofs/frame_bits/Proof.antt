@@ -1,7 +1,7 @@
 -- `receiver::frame_bits` meets its contract, by the two kinds. Assumes nothing.
 use borrow.Author.Needs.{needs}
-use Rattle.receiver.proofs.frame_bits.Statement.{statement}
-use Rattle.receiver.proofs.frame_bits.Tie as tie
+use Rattle.whole_frame.proofs.frame_bits.Statement.{statement}
+use Rattle.whole_frame.proofs.frame_bits.Tie as tie
 
 enum-told : tie.Need-enum-told
 enum-told c = search needs

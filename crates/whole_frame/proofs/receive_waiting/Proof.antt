@@ -5,12 +5,12 @@ use Rattle.receiver_state.specs.State.{nothingHeld}
 use Rattle.fate.specs.declared.Clocked.{Clocked}
 use Rattle.fate.specs.Fate.{columnsOf}
 use Rattle.fate.specs.Laws.{finishedBy}
 use Rattle.receiver.specs.Clock.{clockedAnswer}
-use Rattle.receiver.specs.WholeFrame.{stillClocked}
-use Rattle.receiver.proofs.AtOnce.{at-once}
+use Rattle.whole_frame.specs.WholeFrame.{stillClocked}
+use Rattle.whole_frame.proofs.AtOnce.{at-once}
 use borrow.Author.Needs.{needs}
-use Rattle.receiver.proofs.receive_waiting.Statement.{statement}
-use Rattle.receiver.proofs.receive_waiting.Tie as tie
+use Rattle.whole_frame.proofs.receive_waiting.Statement.{statement}
+use Rattle.whole_frame.proofs.receive_waiting.Tie as tie
 
 frame-bits-requires : tie.Need-frame-bits-requires
 frame-bits-requires c κs = search needs

@@ -1,0 +1,3 @@
+pub mod WholeFrame
+pub mod AtOnce
+pub mod WholeFrameLaw
