@@ -4,10 +4,11 @@
  * once; and reports of stored lines.
  *
  * Every function takes every value of its arguments. Each answer begins with the number of refusal
- * of document 01, the customer's scope paper: 0 is success; else every other field of the answer is
- * 0, but for a state that was given, which comes back as it was, and no byte of a lent buffer was
- * written. ttcrx_well_formed, ttcrx_filled_length and the functions on reports refuse nothing, and
- * their answers have no such number.
+ * of the customer's papers (document 01, the scope; 15 and 16: document 02, the change requests): 0
+ * is success; else every other field of the answer is 0, but for a state that was given, which comes
+ * back as it was; a state that was lent stays, and nothing of a lent buffer was written.
+ * ttcrx_well_formed, ttcrx_filled_length and the functions on reports refuse nothing, and their
+ * answers have no such number.
  *
  * A function that is lent characters, bytes or a buffer takes a pointer and a length in elements. What
  * the caller must ensure: the pointer is aligned and valid for that length, for writing too where it
@@ -171,11 +172,11 @@ typedef struct ttcrx_write_answer {
     ttcrx_receiver receiver; /* the state after the write; with a refusal, the state as given */
 } ttcrx_write_answer;
 
-/* The answer of a block. */
-typedef struct ttcrx_block_answer {
+/* What a block answers; its state stays in the receiver that was lent. */
+typedef struct ttcrx_block_outcome {
     uint8_t refusal;
     size_t records; /* how many were written, from the front of the buffer */
-} ttcrx_block_answer;
+} ttcrx_block_outcome;
 
 /* The characters of a line so far, as far as they matter. */
 typedef struct ttcrx_line_part {
@@ -273,7 +274,8 @@ ttcrx_clock_answer ttcrx_receive_short(ttcrx_receiver receiver, uint64_t number)
 /* The same for a long frame. */
 ttcrx_clock_answer ttcrx_receive_long(ttcrx_receiver receiver, uint64_t number);
 
-/* The clocks that a block may have, and the numbers of a record. */
+/* The clocks that a block may have, and the numbers of a record: a buffer of both multiplied is always
+   enough. */
 #define TTCRX_BLOCK_CLOCKS 4096
 #define TTCRX_RECORD_NUMBERS 5
 
@@ -291,12 +293,12 @@ ttcrx_clock_answer ttcrx_receive_long(ttcrx_receiver receiver, uint64_t number);
  * does no clock, and changes neither the receiver nor a number of the buffer. The buffer's length is in
  * numbers, not in bytes.
  */
-ttcrx_block_answer ttcrx_run_block(ttcrx_receiver *receiver, const uint8_t *block,
+ttcrx_block_outcome ttcrx_run_block(ttcrx_receiver *receiver, const uint8_t *block,
                                    size_t block_length, uint32_t *buffer, size_t buffer_length);
 
 /*
- * How many numbers at the front of a buffer of that length so many records are: five for each; or 0
- * where they are more than the length. Refuses nothing.
+ * How many numbers that many records take up, at the front of a buffer of that length: five for each;
+ * or 0 where these are more than the length. Refuses nothing.
  */
 size_t ttcrx_filled_length(size_t buffer_length, size_t records);
 

@@ -53,7 +53,7 @@ static int unwritten_from(size_t place)
     return 1;
 }
 
-static int block_is(ttcrx_block_answer answer, uint8_t refusal, size_t records)
+static int block_is(ttcrx_block_outcome answer, uint8_t refusal, size_t records)
 {
     return answer.refusal == refusal && answer.records == records;
 }
@@ -213,7 +213,7 @@ static void check_board_service(void)
     size_t block, i;
     unwrite();
     for (block = 0; block < 3; block++) {
-        ttcrx_block_answer answer;
+        ttcrx_block_outcome answer;
         /* A trigger on every second clock, and the broadcast of FC at the end. */
         for (i = 0; i < TTCRX_BLOCK_CLOCKS; i++) {
             clocks[i] = i % 2 == 0 ? IDLE_TRIGGER : IDLE;

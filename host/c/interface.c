@@ -115,9 +115,9 @@ static_assert(sizeof(ttcrx_write_answer) == 56, "write");
 static_assert(offsetof(ttcrx_write_answer, refusal) == 0, "write.refusal");
 static_assert(offsetof(ttcrx_write_answer, receiver) == 8, "write.receiver");
 
-static_assert(sizeof(ttcrx_block_answer) == 16, "block");
-static_assert(offsetof(ttcrx_block_answer, refusal) == 0, "block.refusal");
-static_assert(offsetof(ttcrx_block_answer, records) == 8, "block.records");
+static_assert(sizeof(ttcrx_block_outcome) == 16, "block");
+static_assert(offsetof(ttcrx_block_outcome, refusal) == 0, "block.refusal");
+static_assert(offsetof(ttcrx_block_outcome, records) == 8, "block.records");
 
 static_assert(sizeof(ttcrx_line_part) == 12, "line_part");
 static_assert(offsetof(ttcrx_line_part, count) == 0, "line_part.count");

@@ -30,8 +30,8 @@ fn print_numbers(numbers: &[u32]) {
 // What the second call hands back.
 fn print_filled(buffer: &[u32], records: usize) {
     let part = filled(buffer, records);
-    print_number(b"filled by ", records as u64);
-    print_number(b" records, ", part.len() as u64);
+    print_number(b"filled part for ", records as u64);
+    print_number(b": ", part.len() as u64);
     io::write_all(1, b" numbers:");
     print_numbers(part);
 }
@@ -58,7 +58,8 @@ fn print_block(receiver: Receiver, block: &[u8], buffer: &mut [u32]) -> Receiver
     after
 }
 
-fn traces() {
+// The receiver that the last of them leaves.
+fn traces() -> Receiver {
     let start = fresh(5, 5);
     let mut buffer = [7u32; 85];
     io::write_all(
@@ -76,68 +77,62 @@ fn traces() {
         b"\nbroadcast 3, trigger on its last clock: verdict 1, and both counters are cleared\n",
     );
     let fourth = print_block(third, &BROADCAST_3, &mut buffer);
-    io::write_all(1, b"\nno clock\n");
-    print_state(run_block(fourth, &[], &mut []).receiver);
+    io::write_all(1, b"\nno clock, and no room\n");
+    print_block(fourth, &[], &mut [])
 }
 
 fn fills() {
     let buffer = [7u32, 8, 9, 10, 11, 12, 13, 14, 15, 16];
-    io::write_all(
-        1,
-        b"\nfilled: none, one, exact fit, one over, the largest number, a fifth of it\n",
-    );
+    io::write_all(1, b"\na buffer of 10: none, one, exact fit, one over\n");
     print_filled(&buffer, 0);
     print_filled(&buffer, 1);
     print_filled(&buffer, 2);
     print_filled(&buffer, 3);
+    io::write_all(
+        1,
+        b"the largest number, and the first of which five times wraps\n",
+    );
     print_filled(&buffer, usize::MAX);
     print_filled(&buffer, usize::MAX / 5 + 1);
+    io::write_all(1, b"an empty buffer\n");
     print_filled(&[], 0);
     print_filled(&[], 1);
 }
 
-// The receiver must come back as it was, and the buffer stay.
-fn print_refused(receiver: Receiver, block: &[u8], buffer: &mut [u32]) {
-    let answer = run_block(receiver, block, buffer);
-    print_number(b"refusal ", answer.refusal as u64);
-    print_number(b", records ", answer.records as u64);
-    print_number(
-        b", bunch counter ",
-        answer.receiver.core.counters.bunch as u64,
-    );
-    io::write_all(1, b"\n");
-}
-
-fn refusals() {
-    let good = fresh(5, 5).receiver;
+fn refusals(good: Receiver) {
     let ill = fresh(0, 5).receiver;
     let long = [2u8; 4097];
     let most = [2u8; 4096];
     let mut room = [7u32; 20480];
-    let mut ten = [7u32; 10];
-    io::write_all(1, b"\nroom for two clocks: exact, one clock over\n");
-    print_refused(good, &[2, 2], &mut ten);
-    print_refused(good, &[2, 2, 2], &mut ten);
     io::write_all(
         1,
-        b"4096 clocks with their exact room, then with one byte more\n",
+        b"\n4096 clocks with their exact room; the bunch counter comes round\n",
     );
-    print_refused(good, &most, &mut room);
-    print_refused(good, &long, &mut room);
+    print_state(run_block(good, &most, &mut room).receiver);
+    io::write_all(1, b"one byte more\n");
+    print_state(run_block(good, &long, &mut room).receiver);
+    let mut ten = [7u32; 10];
+    let mut nine = [7u32; 9];
+    io::write_all(1, b"\nroom for two clocks: exact\n");
+    print_block(good, &[3, 2], &mut ten);
+    io::write_all(1, b"one number short\n");
+    print_block(good, &[3, 2], &mut nine);
     io::write_all(1, b"byte 4 in the last place, after a trigger\n");
-    print_refused(good, &[3, 4], &mut ten);
-    print_numbers(&ten);
-    io::write_all(1, b"in their order: 2, 15, 16, 1\n");
-    print_refused(ill, &long, &mut ten);
-    print_refused(good, &long, &mut ten);
-    print_refused(good, &[4, 4, 4], &mut ten);
-    print_refused(good, &[4, 4], &mut ten);
-    io::write_all(1, b"no clock on a receiver that is not well formed\n");
-    print_refused(ill, &[], &mut ten);
+    print_block(good, &[3, 4], &mut ten);
+    io::write_all(
+        1,
+        b"\nall faults at once: 2, then 15, 16 and 1 as they are mended\n",
+    );
+    print_block(ill, &long, &mut ten);
+    print_block(good, &long, &mut ten);
+    print_block(good, &[4, 4, 4], &mut ten);
+    print_block(good, &[4, 4], &mut ten);
+    io::write_all(1, b"\nno clock on a receiver that is not well formed\n");
+    print_block(ill, &[], &mut ten);
 }
 
 fn main() {
-    traces();
+    let last = traces();
     fills();
-    refusals();
+    refusals(last);
 }

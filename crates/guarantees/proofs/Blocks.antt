@@ -2,15 +2,15 @@
 use mathlib.Core.Path.{_≡_, refl, sym, ap, ap₂, subst, _∙_}
 use mathlib.Core.Logic.{_≢_, _⊎_, inl, inr, ⊎-elim, _↔_}
 use mathlib.Core.Bool.{Bool, true, false, not, cond, _||_, false≢true}
-use mathlib.Core.List.{List, [], _∷_, _++_, map, append-nil, append-assoc}
+use mathlib.Core.List.{List, [], _∷_, _++_, map, append-assoc}
 use Prim.Native.Nat.{ℕ, zero, suc, _+_, _*_, _<_, _≤_}
-use native.Mathlib.Nat.{add-zero, zero-add, add-suc, suc-add, add-assoc, mod-lt}
+use native.Mathlib.Nat.{add-zero, zero-add, add-suc, suc-add, mod-lt}
 use native.Mathlib.Omega.{arith}
-use borrow.Author.Tests.{eq-eqb, ne-eqb, eqb-true, eqb-false, lt-ltb, le-ltb, ltb-true, ltb-false, le-leb, leb-true}
+use borrow.Author.Tests.{eq-eqb, ne-eqb, eqb-false, lt-ltb, le-ltb, ltb-false, le-leb}
 use lib.Dec.{eqb, ltb, leb, lit<}
 use lib.ListN.{length, take, drop, getD, length-append, length-drop, length-map, List·getD-append}
 use lib.Seq.{length-take-le, take-suc, take-length, take-at, drop-at, getD-append-add}
-use Rattle.laws.proofs.Rules.{picked, picked-by, by-test}
+use Rattle.laws.proofs.Rules.{or-true, picked, picked-by, by-test}
 use Rattle.laws.proofs.Table.{all-entries}
 use Rattle.trace_records.specs.Record.{recordNumbers, traceRecord, numbersOf}
 use Rattle.trace_records.specs.Filled.{filledLength, filledPart}
@@ -19,18 +19,16 @@ use Rattle.receiver_state.specs.declared.Receiver.{Receiver}
 use Rattle.receiver_state.specs.WellFormed.{wellFormed}
 use Rattle.fate.specs.declared.Outputs.{Outputs}
 use Rattle.fate.specs.Fate.{columnsOf}
-use Rattle.fate.specs.Laws.{GoodTables}
 use Rattle.fate.proofs.Laws.{tables-good}
-use Rattle.receiver.specs.declared.ClockAnswer.{ClockAnswer}
 use Rattle.trace_records.specs.declared.TraceRecord.{TraceRecord}
-use Rattle.receiver.specs.Laws.{ClockLaws}
+use Rattle.receiver.specs.Laws.{Accepted, ClockLaws}
 use Rattle.receiver.specs.Block.{triggerBit, channelBit, byteClock, SingleClock, singly, stateAfter, recorded, recordOf, recordsOf, allNumbers, blockRecords, BlockDone, refusedBlock, acceptedBlock, blockClocks, noByteOver3, runBlock}
 use Rattle.receiver.proofs.Laws.{clock-theorem}
 use Rattle.receiver.proofs.InRange.{byte-below}
 use Rattle.receiver.proofs.Run.{five-each, one-a-clock}
-use Rattle.guarantees.specs.Calls.{Call, clock, call, run}
+use Rattle.guarantees.specs.Calls.{call, run}
 use Rattle.guarantees.specs.Blocks as blocks
-use Rattle.guarantees.specs.Blocks.{clockCall, clockCalls, stateBefore, shownAt, recordAt, below, singleRecords, IsBlock, DoneSingly, later, CutInTwo, BlockLaws, BlockTheorem, ReceiverBlocks}
+use Rattle.guarantees.specs.Blocks.{clockCalls, stateBefore, answerAt, recordAt, below, singleRecords, Accepts, DoneSingly, shiftedAfter, shifted, CutInTwo, BlockTheorem, ReceiverBlocks}
 
 -- ---- no byte over 3
 
@@ -44,6 +42,21 @@ numbers-append : (a b : List TraceRecord) → allNumbers (a ++ b) ≡ allNumbers
 unfolding allNumbers
 numbers-append [] b = refl
 numbers-append (one ∷ a) b = ap (λ (l : List ℕ). numbersOf one ++ l) (numbers-append a b) ∙ sym (append-assoc (numbersOf one) (allNumbers a) (allNumbers b))
+
+-- the same record in a block that began so many clocks earlier
+abbrev later : ℕ → TraceRecord → TraceRecord
+later clocks one = record { place = clocks + one .place; bunch = one .bunch; event = one .event; code = one .code; word = one .word }
+
+shift-all : (clocks : ℕ) (records : List TraceRecord) → shifted clocks (allNumbers records) ≡ allNumbers (map (later clocks) records)
+unfolding shiftedAfter allNumbers
+shift-all clocks [] = refl
+shift-all clocks (one ∷ others) = ap (λ (l : List ℕ). numbersOf (later clocks one) ++ l) (shift-all clocks others)
+
+-- one record, or none
+one-or-none : (t : Bool) (one : TraceRecord) → allNumbers (cond t (one ∷ []) []) ≡ cond t (numbersOf one) []
+unfolding allNumbers
+one-or-none true one = refl
+one-or-none false one = refl
 
 cond-append : {A : Type 0} (t : Bool) (x : A) (xs ys : List A) → cond t (x ∷ (xs ++ ys)) (xs ++ ys) ≡ cond t (x ∷ xs) xs ++ ys
 cond-append true x xs ys = refl
@@ -108,32 +121,34 @@ module _ (columns : Kind → List ℕ) where
 
   module _ (r : Receiver) (block : List ℕ) where
     -- the clock at a place is that of its byte on the state before it
-    one-record : (place : ℕ) → recordsOf (singly columns place (stateAfter columns r (take place block)) (getD block place 0 ∷ [])) ≡ recordAt columns r block place
+    one-record : (place : ℕ) → allNumbers (recordsOf (singly columns place (stateAfter columns r (take place block)) (getD block place 0 ∷ []))) ≡ recordAt columns r block place
     unfolding singly recordsOf call
     one-record place =
-        ap (λ (s : Receiver).
-        let shown = byteClock columns s (getD block place 0) .outputs in
-        cond (recorded shown) (traceRecord place (s .core .counters) shown ∷ []) []) (state-calls r (take place block))
+        let byte = getD block place 0 in
+        ap (λ (s : Receiver). allNumbers (recordsOf (singly columns place s (byte ∷ [])))) (state-calls r (take place block))
+        ∙ one-or-none (recorded (answerAt columns r block place .outputs)) (traceRecord place (stateBefore columns r block place .core .counters) (answerAt columns r block place .outputs))
 
-    records-below : (n : ℕ) → n ≤ length block → blockRecords columns r (take n block) ≡ below (recordAt columns r block) n
-    unfolding below singly recordsOf
+    records-below : (n : ℕ) → n ≤ length block → allNumbers (blockRecords columns r (take n block)) ≡ below (recordAt columns r block) n
+    unfolding below singly recordsOf allNumbers
     records-below zero h = refl
     records-below (suc n) h =
         let here : n < length block = h in
         let size : 0 + length (take n block) ≡ n = omega (arith, length-take-le n block (omega arith)) in
-        ap (blockRecords columns r) (take-suc block n 0 here)
-        ∙ ap recordsOf (singly-append 0 r (take n block) (getD block n 0 ∷ []))
-        ∙ records-append (singly columns 0 r (take n block)) (singly columns (0 + length (take n block)) (stateAfter columns r (take n block)) (getD block n 0 ∷ []))
-        ∙ ap₂ (λ (a b : List TraceRecord). a ++ b) (records-below n (omega arith))
-        (ap (λ (k : ℕ). recordsOf (singly columns k (stateAfter columns r (take n block)) (getD block n 0 ∷ []))) size ∙ one-record n)
+        let last = singly columns (0 + length (take n block)) (stateAfter columns r (take n block)) (getD block n 0 ∷ []) in
+        ap (λ (bytes : List ℕ). allNumbers (blockRecords columns r bytes)) (take-suc block n 0 here)
+        ∙ ap (λ (clocks : List SingleClock). allNumbers (recordsOf clocks)) (singly-append 0 r (take n block) (getD block n 0 ∷ []))
+        ∙ ap allNumbers (records-append (singly columns 0 r (take n block)) last)
+        ∙ numbers-append (blockRecords columns r (take n block)) (recordsOf last)
+        ∙ ap₂ (λ (a b : List ℕ). a ++ b) (records-below n (omega arith))
+        (ap (λ (k : ℕ). allNumbers (recordsOf (singly columns k (stateAfter columns r (take n block)) (getD block n 0 ∷ [])))) size ∙ one-record n)
 
-    single-records : blockRecords columns r block ≡ singleRecords columns r block
-    single-records = ap (blockRecords columns r) (sym (take-length block)) ∙ records-below (length block) (omega arith)
+    single-records : allNumbers (blockRecords columns r block) ≡ singleRecords columns r block
+    single-records = ap (λ (bytes : List ℕ). allNumbers (blockRecords columns r bytes)) (sym (take-length block)) ∙ records-below (length block) (omega arith)
 
   -- ---- refusals
 
   module _ (r : Receiver) (block buffer : List ℕ) where
-    accepted : IsBlock r block buffer → runBlock columns r block buffer ≡ acceptedBlock columns r block buffer
+    accepted : Accepts r block buffer → runBlock columns r block buffer ≡ acceptedBlock columns r block buffer
     unfolding runBlock
     accepted b = rw (b .well-formed, le-ltb blockClocks (length block) (b .few), le-ltb (length buffer) (recordNumbers * length block) (b .room), in-range block (b .in-range)) refl
 
@@ -158,7 +173,7 @@ module _ (columns : Kind → List ℕ) where
         rw (w, le-ltb blockClocks (length block) few, le-ltb (length buffer) (recordNumbers * length block) room, out) refl
 
     -- what is not refused passed every test
-    is-block : runBlock columns r block buffer .answer .refusal ≡ 0 → IsBlock r block buffer
+    is-block : runBlock columns r block buffer .answer .refusal ≡ 0 → Accepts r block buffer
     unfolding runBlock
     is-block =
         picked-by Taken (wellFormed r)
@@ -176,14 +191,14 @@ module _ (columns : Kind → List ℕ) where
         (λ t z. absurd (omega arith))
       where
         Taken : BlockDone → Type 0
-        Taken done = done .answer .refusal ≡ 0 → IsBlock r block buffer
+        Taken done = done .answer .refusal ≡ 0 → Accepts r block buffer
 
     -- ---- what an accepted block leaves
 
     abbrev records : List TraceRecord
     records = blockRecords columns r block
 
-    five-fit : IsBlock r block buffer → length (allNumbers records) ≤ length buffer
+    five-fit : Accepts r block buffer → length (allNumbers records) ≤ length buffer
     five-fit b = omega (arith, b .room, five-each columns records, one-a-clock columns 0 r block)
 
     -- the front of the buffer that so many records fill
@@ -196,14 +211,14 @@ module _ (columns : Kind → List ℕ) where
     filled-front : filledPart (acceptedBlock columns r block buffer .buffer) (length records) ≡ allNumbers records
     filled-front = front (length records) (allNumbers records) (drop (length (allNumbers records)) buffer) (five-each columns records)
 
-    done-singly : IsBlock r block buffer → DoneSingly columns r block buffer (acceptedBlock columns r block buffer)
+    done-singly : Accepts r block buffer → DoneSingly columns r block buffer (acceptedBlock columns r block buffer)
     done-singly b =
         let single = single-records r block in
         let fits = five-fit b in
         record {
           state-is = state-calls r block;
-          filled-is = filled-front ∙ ap allNumbers single;
-          count-is = ap (λ (l : List TraceRecord). length l) single;
+          filled-is = filled-front ∙ single;
+          count-is = sym (five-each columns records) ∙ ap (λ (l : List ℕ). length l) single;
           fit = omega (arith, fits, five-each columns records);
           others-stay =
               drop-at (allNumbers records) (drop (length (allNumbers records)) buffer) (recordNumbers * length records) (five-each columns records)
@@ -211,15 +226,15 @@ module _ (columns : Kind → List ℕ) where
           same-length = omega (arith, fits, length-append (allNumbers records) (drop (length (allNumbers records)) buffer), length-drop (length (allNumbers records)) buffer);
         }
 
-    equals-singly : IsBlock r block buffer → DoneSingly columns r block buffer (runBlock columns r block buffer)
+    equals-singly : Accepts r block buffer → DoneSingly columns r block buffer (runBlock columns r block buffer)
     equals-singly b = subst (DoneSingly columns r block buffer) (sym (accepted b)) (done-singly b)
 
   -- ---- a block cut in two
 
-  module _ (r : Receiver) (first second buffer buffer₁ buffer₂ : List ℕ) (b : IsBlock r (first ++ second) buffer)
+  module _ (r : Receiver) (first second buffer buffer₁ buffer₂ : List ℕ) (b : Accepts r (first ++ second) buffer)
       (room₁ : recordNumbers * length first ≤ length buffer₁) (room₂ : recordNumbers * length second ≤ length buffer₂)
       (w : wellFormed (stateAfter columns r first) ≡ true) where
-    is-first : IsBlock r first buffer₁
+    is-first : Accepts r first buffer₁
     is-first = record {
       well-formed = b .well-formed;
       few = omega (arith, b .few, length-append first second);
@@ -229,7 +244,7 @@ module _ (columns : Kind → List ℕ) where
           (b .in-range place (omega (arith, length-append first second)));
     }
 
-    is-second : IsBlock (stateAfter columns r first) second buffer₂
+    is-second : Accepts (stateAfter columns r first) second buffer₂
     is-second = record {
       well-formed = w;
       few = omega (arith, b .few, length-append first second);
@@ -239,11 +254,11 @@ module _ (columns : Kind → List ℕ) where
           (b .in-range (length first + place) (omega (arith, length-append first second)));
     }
 
-    cut : CutInTwo columns first second (acceptedBlock columns r (first ++ second) buffer) (acceptedBlock columns r first buffer₁)
+    cut : CutInTwo first (acceptedBlock columns r (first ++ second) buffer) (acceptedBlock columns r first buffer₁)
         (acceptedBlock columns (stateAfter columns r first) second buffer₂)
     cut =
         let after = stateAfter columns r first in
-        let shifted = map (later (length first)) (blockRecords columns after second) in
+        let moved = map (later (length first)) (blockRecords columns after second) in
         let parts = parts-records r first second in
         record {
           first-taken = refl;
@@ -251,15 +266,14 @@ module _ (columns : Kind → List ℕ) where
           same-state = state-append r first second;
           same-count =
               ap (λ (l : List TraceRecord). length l) parts
-              ∙ length-append (blockRecords columns r first) shifted
+              ∙ length-append (blockRecords columns r first) moved
               ∙ ap (λ (n : ℕ). length (blockRecords columns r first) + n) (length-map (blockRecords columns after second) (later (length first)));
-          second-filled = filled-front after second buffer₂ ∙ ap allNumbers (single-records after second);
           same-records =
               filled-front r (first ++ second) buffer
               ∙ ap allNumbers parts
-              ∙ numbers-append (blockRecords columns r first) shifted
+              ∙ numbers-append (blockRecords columns r first) moved
               ∙ ap₂ (λ (x y : List ℕ). x ++ y) (sym (filled-front r first buffer₁))
-              (ap (λ (l : List TraceRecord). allNumbers (map (later (length first)) l)) (single-records after second));
+              (sym (shift-all (length first) (blockRecords columns after second)) ∙ ap (shifted (length first)) (sym (filled-front after second buffer₂)));
         }
 
 -- ---- what depends on the laws of a clock
@@ -296,19 +310,23 @@ module _ (columns : Kind → List ℕ) (laws : ClockLaws columns) where
       some-trigger : (n : ℕ) → n ≡ 1 → n ≢ 0
       some-trigger n a z = omega arith
 
-      or-true : (a : Bool) → (a || true) ≡ true
-      or-true true = refl
-      or-true false = refl
+  -- the state before each clock is well formed
+  before-ok : (r : Receiver) (block : List ℕ) (place : ℕ) → wellFormed r ≡ true → Accepted (stateBefore columns r block place) (triggerBit (getD block place 0)) (channelBit (getD block place 0))
+  before-ok r block place w = (
+    subst (λ (x : Receiver). wellFormed x ≡ true) (state-calls columns r (take place block)) (state-stays r (take place block) w),
+    mod-lt _ (lit< tt),
+    mod-lt _ (lit< tt),
+  )
+
+  none-refused : blocks.NoneRefused columns
+  unfolding call
+  none-refused r block place w = laws .nothing-else-refused _ _ _ .1 (before-ok r block place w)
 
   recorded-exactly : blocks.RecordedExactly columns
   unfolding call
-  recorded-exactly r block buffer place b here =
-      let byte = getD block place 0 in
-      let before = stateBefore columns r block place in
-      let w = subst (λ (x : Receiver). wellFormed x ≡ true) (state-calls columns r (take place block)) (state-stays r (take place block) (b .well-formed)) in
-      let t : triggerBit byte < 2 = mod-lt byte (lit< tt) in
-      let shows = laws .bus-law before (triggerBit byte) (channelBit byte) (w, t, mod-lt _ (lit< tt)) in
-      recorded-by (shownAt columns r block place) (triggerBit byte) (shows .trigger-shown) t
+  recorded-exactly r block place w =
+      let ok = before-ok r block place w in
+      recorded-by (answerAt columns r block place .outputs) (triggerBit (getD block place 0)) (laws .bus-law _ _ _ ok .trigger-shown) (ok .1)
 
   cuts-never-show : blocks.CutsNeverShow columns
   cuts-never-show r first second buffer buffer₁ buffer₂ b room₁ room₂ =
@@ -330,6 +348,7 @@ block-theorem columns good =
       refused-by-16 = refused-by-16 columns;
       refused-by-1 = refused-by-1 columns;
       equals-singly = equals-singly columns;
+      none-refused = none-refused columns laws;
       recorded-exactly = recorded-exactly columns laws;
       stays-well-formed = stays-well-formed columns laws;
       cuts-never-show = cuts-never-show columns laws;

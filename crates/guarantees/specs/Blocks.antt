@@ -1,28 +1,25 @@
 -- Document 02, Q-3: what holds of every block, over the columns of each kind of frame. Proved in proofs/Blocks.antt.
 -- `runBlock` of the crate `receiver` is what the function `run_block` gives by its contract; `ttcrx_run_block` leaves and answers the same.
-use Prim.Native.Nat.{ℕ, zero, suc, _+_, _*_, _<_, _≤_}
+use Prim.Native.Nat.{ℕ, zero, suc, _+_, _*_, _/_, _%_, _<_, _≤_}
 use mathlib.Core.Path.{_≡_}
 use mathlib.Core.Logic.{_≢_, _⊎_, _↔_}
 use mathlib.Core.Bool.{true, false, cond}
 use mathlib.Core.List.{List, [], _∷_, _++_, map}
 use lib.ListN.{length, take, drop, getD}
-use Rattle.trace_records.specs.Record.{recordNumbers, traceRecord}
 use Rattle.trace_records.specs.Filled.{filledPart}
 use Rattle.frame.specs.declared.Kind.{Kind}
 use Rattle.receiver_state.specs.declared.Receiver.{Receiver}
 use Rattle.receiver_state.specs.WellFormed.{wellFormed}
-use Rattle.fate.specs.declared.Outputs.{Outputs}
 use Rattle.fate.specs.Fate.{columnsOf}
 use Rattle.fate.specs.Laws.{GoodTables}
-use Rattle.trace_records.specs.declared.TraceRecord.{TraceRecord}
-use Rattle.receiver.specs.Block.{triggerBit, channelBit, recorded, allNumbers, BlockDone, refusedBlock, blockClocks, runBlock}
-use Rattle.guarantees.specs.Calls.{Call, clock, call, run}
+use Rattle.receiver.specs.Block.{recorded, BlockDone, refusedBlock, runBlock}
+use Rattle.guarantees.specs.Calls.{Call, clock, CallAnswer, call, run}
 
 -- ---- the clocks of a block as a list of calls
 
 -- "a byte each: bit 0 the trigger, bit 1 channel B"
 abbrev pub clockCall : ℕ → Call
-clockCall byte = clock (triggerBit byte) (channelBit byte)
+clockCall byte = clock (byte % 2) (byte / 2 % 2)
 
 abbrev pub clockCalls : List ℕ → List Call
 clockCalls block = map clockCall block
@@ -32,35 +29,47 @@ module _ (columns : Kind → List ℕ) (r : Receiver) (block : List ℕ) where
   abbrev pub stateBefore : ℕ → Receiver
   stateBefore place = run columns r (clockCalls (take place block))
 
-  -- what that clock shows
-  abbrev pub shownAt : ℕ → Outputs
-  shownAt place = call columns (stateBefore place) (clockCall (getD block place 0)) .answer .outputs
+  -- what that clock answers
+  abbrev pub answerAt : ℕ → CallAnswer
+  answerAt place = call columns (stateBefore place) (clockCall (getD block place 0)) .answer
 
-  -- its record, if it has one
-  abbrev pub recordAt : ℕ → List TraceRecord
-  recordAt place = cond (recorded (shownAt place)) (traceRecord place (stateBefore place .core .counters) (shownAt place) ∷ []) []
+  -- "five 32-bit numbers: place in the block (from 0), bunch and event counts before the clock, a code (verdict + 16 corrected + 32 trigger + 64
+  -- missed), the word"
+  abbrev pub numbersAt : ℕ → List ℕ
+  numbersAt place =
+      let shown = answerAt place .outputs in
+      place
+      ∷ stateBefore place .core .counters .bunch
+      ∷ stateBefore place .core .counters .event
+      ∷ (shown .verdict + 16 * shown .corrected + 32 * shown .trigger + 64 * shown .missed)
+      ∷ shown .word
+      ∷ []
 
--- the records of the places below n, in their order
-unfoldable pub below : (ℕ → List TraceRecord) → ℕ → List TraceRecord
+  -- none for a clock that has no record
+  abbrev pub recordAt : ℕ → List ℕ
+  recordAt place = cond (recorded (answerAt place .outputs)) (numbersAt place) []
+
+-- the lists of the places below n, one behind the other
+unfoldable pub below : (ℕ → List ℕ) → ℕ → List ℕ
 below at zero = []
 below at (suc n) = below at n ++ at n
 
--- the records of the clocks done singly: of "each clock with a trigger or a verdict other than 0"
-abbrev pub singleRecords : (Kind → List ℕ) → Receiver → List ℕ → List TraceRecord
+-- the records of the clocks done singly, in their order
+abbrev pub singleRecords : (Kind → List ℕ) → Receiver → List ℕ → List ℕ
 singleRecords columns r block = below (recordAt columns r block) (length block)
 
 -- ---- refusals
 
 -- what is not refused: the state is well formed, the block has at most 4,096 bytes, there are five numbers of room for each, and no byte is over 3
-pub record IsBlock (r : Receiver) (block buffer : List ℕ) : Type 0 where
+pub record Accepts (r : Receiver) (block buffer : List ℕ) : Type 0 where
   pub well-formed : wellFormed r ≡ true
-  pub few : length block ≤ blockClocks
-  pub room : recordNumbers * length block ≤ length buffer
+  pub few : length block ≤ 4096
+  pub room : 5 * length block ≤ length buffer
   pub in-range : (place : ℕ) → place < length block → getD block place 0 ≤ 3
 
 module _ (columns : Kind → List ℕ) where
   abbrev pub NothingElseRefused : Type 0
-  NothingElseRefused = (r : Receiver) (block buffer : List ℕ) → (runBlock columns r block buffer .answer .refusal ≡ 0) ↔ IsBlock r block buffer
+  NothingElseRefused = (r : Receiver) (block buffer : List ℕ) → (runBlock columns r block buffer .answer .refusal ≡ 0) ↔ Accepts r block buffer
 
   -- "in this order after 2": each number where no earlier one fits
   abbrev pub RefusedBy2 : Type 0
@@ -86,22 +95,26 @@ module _ (columns : Kind → List ℕ) where
   pub record DoneSingly (r : Receiver) (block buffer : List ℕ) (done : BlockDone) : Type 0 where
     -- the state is that of the clocks done singly
     pub state-is : done .answer .receiver ≡ run columns r (clockCalls block)
-    -- "the filled part", which the second call hands back, holds their records, one behind the other
-    pub filled-is : filledPart (done .buffer) (done .answer .records) ≡ allNumbers (singleRecords columns r block)
-    pub count-is : done .answer .records ≡ length (singleRecords columns r block)
+    -- "the filled part", which the second call hands back, holds their records
+    pub filled-is : filledPart (done .buffer) (done .answer .records) ≡ singleRecords columns r block
+    pub count-is : 5 * done .answer .records ≡ length (singleRecords columns r block)
     -- there is room for them, and "the numbers after the last record stay"
-    pub fit : recordNumbers * done .answer .records ≤ length buffer
-    pub others-stay : drop (recordNumbers * done .answer .records) (done .buffer) ≡ drop (recordNumbers * done .answer .records) buffer
+    pub fit : 5 * done .answer .records ≤ length buffer
+    pub others-stay : drop (5 * done .answer .records) (done .buffer) ≡ drop (5 * done .answer .records) buffer
     pub same-length : length (done .buffer) ≡ length buffer
 
   abbrev pub EqualsSingly : Type 0
-  EqualsSingly = (r : Receiver) (block buffer : List ℕ) → IsBlock r block buffer → DoneSingly r block buffer (runBlock columns r block buffer)
+  EqualsSingly = (r : Receiver) (block buffer : List ℕ) → Accepts r block buffer → DoneSingly r block buffer (runBlock columns r block buffer)
 
-  -- a clock has a record exactly if its byte has a trigger, or a frame finishes on it
+  -- each of those calls is a clock, 01's "clock call that isn't refused"
+  abbrev pub NoneRefused : Type 0
+  NoneRefused = (r : Receiver) (block : List ℕ) (place : ℕ) → wellFormed r ≡ true → answerAt columns r block place .refusal ≡ 0
+
+  -- "each clock with a trigger or a verdict other than 0" has a record, and no other clock has
   abbrev pub RecordedExactly : Type 0
   RecordedExactly =
-      (r : Receiver) (block buffer : List ℕ) (place : ℕ) → IsBlock r block buffer → place < length block
-      → (recorded (shownAt columns r block place) ≡ true) ↔ ((triggerBit (getD block place 0) ≡ 1) ⊎ (shownAt columns r block place .verdict ≢ 0))
+      (r : Receiver) (block : List ℕ) (place : ℕ) → wellFormed r ≡ true
+      → (recorded (answerAt columns r block place .outputs) ≡ true) ↔ ((getD block place 0 % 2 ≡ 1) ⊎ (answerAt columns r block place .outputs .verdict ≢ 0))
 
   -- refused or not
   abbrev pub StaysWellFormed : Type 0
@@ -110,26 +123,32 @@ module _ (columns : Kind → List ℕ) where
 
 -- ---- a block cut in two
 
--- records of a block that began so many clocks later
-abbrev pub later : ℕ → TraceRecord → TraceRecord
-later clocks one = record { place = clocks + one .place; bunch = one .bunch; event = one .event; code = one .code; word = one .word }
+-- so many clocks are added to every fifth number, after the next n
+unfoldable pub shiftedAfter : ℕ → ℕ → List ℕ → List ℕ
+shiftedAfter clocks zero [] = []
+shiftedAfter clocks (suc n) [] = []
+shiftedAfter clocks zero (place ∷ others) = (clocks + place) ∷ shiftedAfter clocks 4 others
+shiftedAfter clocks (suc n) (number ∷ others) = number ∷ shiftedAfter clocks n others
+
+-- the same records in a block that began so many clocks earlier: the first number of each is its place
+abbrev pub shifted : ℕ → List ℕ → List ℕ
+shifted clocks numbers = shiftedAfter clocks 0 numbers
 
 -- what the two parts give, each with a buffer of its own: the same state, and, with places shifted, the same records
-pub record CutInTwo (columns : Kind → List ℕ) (first second : List ℕ) (whole one two : BlockDone) : Type 0 where
+pub record CutInTwo (first : List ℕ) (whole one two : BlockDone) : Type 0 where
   pub first-taken : one .answer .refusal ≡ 0
   pub second-taken : two .answer .refusal ≡ 0
   pub same-state : whole .answer .receiver ≡ two .answer .receiver
   pub same-count : whole .answer .records ≡ one .answer .records + two .answer .records
-  pub second-filled : filledPart (two .buffer) (two .answer .records) ≡ allNumbers (singleRecords columns (one .answer .receiver) second)
   pub same-records : filledPart (whole .buffer) (whole .answer .records)
-      ≡ filledPart (one .buffer) (one .answer .records) ++ allNumbers (map (later (length first)) (singleRecords columns (one .answer .receiver) second))
+      ≡ filledPart (one .buffer) (one .answer .records) ++ shifted (length first) (filledPart (two .buffer) (two .answer .records))
 
 abbrev pub CutsNeverShow : (Kind → List ℕ) → Type 0
 CutsNeverShow columns =
-    (r : Receiver) (first second buffer buffer₁ buffer₂ : List ℕ) → IsBlock r (first ++ second) buffer
-    → recordNumbers * length first ≤ length buffer₁ → recordNumbers * length second ≤ length buffer₂
+    (r : Receiver) (first second buffer buffer₁ buffer₂ : List ℕ) → Accepts r (first ++ second) buffer
+    → 5 * length first ≤ length buffer₁ → 5 * length second ≤ length buffer₂
     → let one = runBlock columns r first buffer₁ in
-    CutInTwo columns first second (runBlock columns r (first ++ second) buffer) one (runBlock columns (one .answer .receiver) second buffer₂)
+    CutInTwo first (runBlock columns r (first ++ second) buffer) one (runBlock columns (one .answer .receiver) second buffer₂)
 
 -- ---- all of them
 
@@ -140,6 +159,7 @@ pub record BlockLaws (columns : Kind → List ℕ) : Type 0 where
   pub refused-by-16 : RefusedBy16 columns
   pub refused-by-1 : RefusedBy1 columns
   pub equals-singly : EqualsSingly columns
+  pub none-refused : NoneRefused columns
   pub recorded-exactly : RecordedExactly columns
   pub stays-well-formed : StaysWellFormed columns
   pub cuts-never-show : CutsNeverShow columns

@@ -44,6 +44,11 @@ or-stops a b e = rw e refl
 pub or-goes : (a b x : Bool) → a ≡ false → x ≡ b → x ≡ (a || b)
 or-goes a b x e f = rw e f
 
+-- the same where the second is known
+pub or-true : (a : Bool) → (a || true) ≡ true
+or-true true = refl
+or-true false = refl
+
 pub ruleset gates = (and-stops, and-goes, and-last, or-stops, or-goes, denied, granted, tests)
 
 -- what holds of both answers holds of the one picked

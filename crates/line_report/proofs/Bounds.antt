@@ -1,14 +1,11 @@
 -- How long a line's text can be. Assumes nothing.
-use mathlib.Core.Path.{_≡_, refl, sym, ap, _∙_}
-use mathlib.Core.Bool.{cond}
+use mathlib.Core.Path.{ap}
 use mathlib.Core.List.{List, [], _∷_, _++_}
-use Prim.Native.Nat.{ℕ, zero, suc, _+_, _/_, _%_, _^_, _≤_, _<_}
-use native.Mathlib.Nat.{pow-suc}
+use Prim.Native.Nat.{ℕ, _+_, _^_, _≤_, _<_}
 use native.Mathlib.Omega.{arith}
-use borrow.Author.Tests.{ltb-true, ltb-false}
 use lib.Dec.{eqb, ltb, lit<}
 use lib.ListN.{length, take, length-append}
-use Rattle.laws.proofs.Rules.{picked, by-test}
+use Rattle.laws.proofs.Rules.{picked}
 use Rattle.frame.specs.declared.Kind.{Kind}
 use Rattle.frame.specs.declared.Kind.the-variants.{Short, Long}
 use Rattle.frame.specs.declared.Answer.{Answer}
@@ -20,7 +17,6 @@ use Rattle.receiver_state.specs.declared.Receiver.{Receiver}
 use Rattle.receiver_state.specs.declared.Core.{Core}
 use Rattle.receiver_state.specs.WellFormed.{wellFormed}
 use Rattle.fate.specs.declared.Outputs.{Outputs}
-use Rattle.fate.specs.declared.Clocked.{Clocked}
 use Rattle.fate.specs.declared.Row.{Row}
 use Rattle.fate.specs.Fate.{isShort, foreign, countErrors, finishedAnswer, fate, finished}
 use Rattle.receiver.specs.declared.ClockAnswer.{ClockAnswer}
@@ -32,12 +28,10 @@ use Rattle.receiver.specs.Clock.{applyFrame, stepAnswer, refusedClock, clockAns
 use Rattle.whole_frame.specs.WholeFrame.{bitsOf, clocksAnswer, noClock, receiveAnswer}
 use Rattle.stored_line.specs.declared.StoredLine.{StoredLine}
 use Rattle.stored_line.specs.declared.StoredLine.the-variants.{Frame, Refused}
-use Rattle.stored_line.specs.Digits.{hexDigits}
-use Rattle.stored_line.specs.Read.{readLine}
 use Rattle.stored_line.proofs.Digits.{length-digits}
 use Rattle.stored_line.proofs.Refusals.{RefusalSmall, refusal-small}
 use Rattle.line_report.specs.declared.LinePart.{LinePart}
-use Rattle.line_report.specs.Text.{decimal, kindDigits, wordDigits, wordText, fateText, refusalText, answerText, lineText, countsText, endText}
+use Rattle.line_report.specs.Text.{decimal, wordDigits, wordText, fateText, refusalText, answerText, lineText, countsText, endText}
 use Rattle.line_report.specs.Output.{feedLine, nextLine, linePrints}
 use Rattle.line_report.specs.declared.Report.{Report}
 use Rattle.line_report.specs.Write.{TextAt}

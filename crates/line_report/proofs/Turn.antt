@@ -23,7 +23,7 @@ use Rattle.line_report.specs.Turn.{placed, finishedFrom, Turned}
 use Rattle.laws.proofs.Sets.{sets-append, sets-front}
 use Rattle.line_report.proofs.Write.{then-text, kept-length}
 use Rattle.line_report.proofs.Bounds.{part-small, line-length, last-length}
-use Rattle.line_report.proofs.Work.{no-room, to-the-end, lineTo, textTo, workBehind, fromFeed, to-the-feed, work-fits}
+use Rattle.line_report.proofs.Work.{no-room, to-the-end, lineTo, textTo, workBehind, to-the-feed, work-fits}
 
 abbrev reported : Report → ℕ → ℕ → Reported
 reported now used written = record { report = now; used = used; written = written }

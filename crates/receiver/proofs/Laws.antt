@@ -5,7 +5,7 @@ use mathlib.Core.Bool.{Bool, true, false, cond}
 use mathlib.Core.List.{List}
 use Prim.Native.Nat.{ℕ, zero, suc, _*_, _^_, _<_, _≤_}
 use native.Mathlib.Omega.{arith}
-use borrow.Author.Tests.{eqb-false, lt-ltb, le-ltb, ltb-false}
+use borrow.Author.Tests.{eqb-false, lt-ltb, ltb-false}
 use lib.Dec.{eqb, ltb}
 use Rattle.laws.proofs.Rules.{picked-by}
 use Rattle.fate.proofs.Laws.{fate-theorem, tables-good}

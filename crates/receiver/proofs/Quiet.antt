@@ -1,28 +1,24 @@
 -- Clocks without a record, done together. Assumes nothing.
 use mathlib.Core.Path.{_≡_, refl, sym, ap, subst, _∙_}
-use mathlib.Core.Bool.{false}
 use mathlib.Core.List.{List, []}
 use Prim.Native.Nat.{ℕ, _+_, _-_, _%_, _<_, _≤_}
 use native.Mathlib.Omega.{arith}
 use lib.ListN.{length, getD, drop}
 use Rattle.frame.specs.declared.Kind.{Kind}
-use Rattle.receiver_state.specs.declared.Counters.{Counters}
 use Rattle.receiver_state.specs.declared.Sequence.{Sequence}
 use Rattle.receiver_state.specs.declared.Core.{Core}
 use Rattle.receiver_state.specs.declared.Held.{Held}
-use Rattle.receiver_state.specs.declared.Receiver.{Receiver}
-use Rattle.receiver_state.specs.State.{counters, wordsLeft, noSequence, receiver, withCounters, withSequence}
+use Rattle.receiver_state.specs.State.{counters, noSequence, receiver, withCounters, withSequence}
 use Rattle.receiver_state.specs.WellFormed.{SequenceFacts, ReceiverFacts}
-use Rattle.fate.specs.declared.Clocked.{Clocked}
 use Rattle.receiver.specs.declared.ClockAnswer.{ClockAnswer}
 use Rattle.receiver.specs.declared.Running.{Running}
-use Rattle.receiver.specs.declared.Turn.{Turn}
+use Rattle.receiver.specs.declared.Progress.{Progress}
 use Rattle.receiver.specs.declared.Taken.the-variants.{Unfinished}
 use Rattle.receiver.specs.TakeBit.{takeBit}
 use Rattle.receiver.specs.IdleClock.{countClock, busStep, idleClock}
 use Rattle.receiver.specs.Clock.{clockedAnswer, stepAnswer}
-use Rattle.receiver.specs.Block.{triggerBit, channelBit, recorded}
-use Rattle.receiver.specs.Run.{RunDone, runDone, leaves, answeredRun, clocksRun, Going, rest, quietRun, Quiet, Turned}
+use Rattle.receiver.specs.Block.{triggerBit, channelBit}
+use Rattle.receiver.specs.Run.{runDone, leaves, answeredRun, clocksRun, ProgressFacts, rest, quietRun, Quiet, Advanced}
 use Rattle.receiver.proofs.Unchecked.{unfinished-step}
 use Rattle.receiver.proofs.Run.{nothing-recorded, without-record, clock-turn, turn-facts, turn-records}
 
@@ -76,34 +72,34 @@ module _ (columns : Kind → List ℕ) (block : List ℕ) (i : ℕ) (run : Runni
 
 -- ---- the loop over such clocks
 
-module _ (columns : Kind → List ℕ) (turn : Turn) (block : List ℕ) where
+module _ (columns : Kind → List ℕ) (progress : Progress) (block : List ℕ) where
   abbrev soFar : Held → ℕ → Running
-  soFar held at = quietRun (at - turn .next) held (turn .run)
+  soFar held at = quietRun (at - progress .next) held (progress .run)
 
   -- the clocks before this place were quiet, and these bits are held
   pub record QuietTo (held : Held) (at : ℕ) : Type 0 where
-    pub low : turn .next ≤ at
+    pub low : progress .next ≤ at
     pub high : at ≤ length block
     pub facts : ReceiverFacts (soFar held at .receiver)
-    pub same : (buffer : List ℕ) → clocksRun columns at (soFar held at) (drop at block) buffer ≡ rest columns block turn buffer
+    pub same : (buffer : List ℕ) → clocksRun columns at (soFar held at) (drop at block) buffer ≡ rest columns block progress buffer
 
-  pub quiet-first : Going turn block → QuietTo (turn .run .receiver .held) (turn .next)
+  pub quiet-first : ProgressFacts progress block → QuietTo (progress .run .receiver .held) (progress .next)
   quiet-first g =
-      let none : turn .next - turn .next ≡ 0 = omega arith in
-      let as-it-was = ap (λ (n : ℕ). quietRun n (turn .run .receiver .held) (turn .run)) none ∙ no-quiet (turn .run) (g .well-formed) in
+      let none : progress .next - progress .next ≡ 0 = omega arith in
+      let as-it-was = ap (λ (n : ℕ). quietRun n (progress .run .receiver .held) (progress .run)) none ∙ no-quiet (progress .run) (g .well-formed) in
       record {
         low = omega arith;
         high = g .within;
         facts = subst (λ (x : Running). ReceiverFacts (x .receiver)) (sym as-it-was) (g .well-formed);
-        same = λ buffer. ap (λ (x : Running). clocksRun columns (turn .next) x (drop (turn .next) block) buffer) as-it-was;
+        same = λ buffer. ap (λ (x : Running). clocksRun columns (progress .next) x (drop (progress .next) block) buffer) as-it-was;
       }
 
   module _ (held longer : Held) (at : ℕ) (q : QuietTo held at) where
-    pub quiet-next : turn .run .receiver .core .sequence .left ≡ 0 → at < length block → triggerBit (getD block at 0) ≡ 0
+    pub quiet-next : progress .run .receiver .core .sequence .left ≡ 0 → at < length block → triggerBit (getD block at 0) ≡ 0
         → takeBit held (channelBit (getD block at 0)) ≡ Unfinished longer → QuietTo longer (at + 1)
     quiet-next none here untriggered taken =
-        let one-more : (at - turn .next) + 1 ≡ (at + 1) - turn .next = omega (arith, q .low) in
-        let next = quiet-more (at - turn .next) held longer (turn .run) ∙ ap (λ (n : ℕ). quietRun n longer (turn .run)) one-more in
+        let one-more : (at - progress .next) + 1 ≡ (at + 1) - progress .next = omega (arith, q .low) in
+        let next = quiet-more (at - progress .next) held longer (progress .run) ∙ ap (λ (n : ℕ). quietRun n longer (progress .run)) one-more in
         record {
           low = omega (arith, q .low);
           high = omega arith;
@@ -114,7 +110,7 @@ module _ (columns : Kind → List ℕ) (turn : Turn) (block : List ℕ) where
               ∙ q .same buffer;
         }
 
-  pub quiet-last : (held : Held) (at : ℕ) (run : Running) → Going turn block → QuietTo held at → run ≡ soFar held at → Quiet columns block turn (record { run = run; next = at })
+  pub quiet-last : (held : Held) (at : ℕ) (run : Running) → ProgressFacts progress block → QuietTo held at → run ≡ soFar held at → Quiet columns block progress (record { run = run; next = at })
   quiet-last held at run g q e =
       record {
         same = λ buffer. ap (λ (x : Running). clocksRun columns at x (drop at block) buffer) e ∙ q .same buffer;
@@ -124,22 +120,21 @@ module _ (columns : Kind → List ℕ) (turn : Turn) (block : List ℕ) where
               within = q .high;
               few = subst (λ (x : Running). x .records ≤ at) (sym e) (omega (arith, g .few, q .low));
               short = g .short;
-              bits = g .bits;
             };
         onward = q .low;
       }
 
--- ---- a turn: quiet clocks, and the clock behind them
+-- ---- quiet clocks, and the clock behind them
 
-module _ (columns : Kind → List ℕ) (block : List ℕ) (before quiet : Turn) (buffer : List ℕ) (q : Quiet columns block before quiet) where
+module _ (columns : Kind → List ℕ) (block : List ℕ) (before quiet : Progress) (buffer : List ℕ) (q : Quiet columns block before quiet) where
   -- all clocks to come were quiet
-  pub turned-last : before .next < length block → quiet .next ≡ length block → Turned columns block before quiet buffer buffer
-  turned-last some all = record { same = q .same buffer; going = q .going; onward = omega arith }
+  pub advanced-last : before .next < length block → quiet .next ≡ length block → Advanced columns block before quiet buffer buffer
+  advanced-last some all = record { same = q .same buffer; going = q .going; onward = omega arith }
 
-  pub turned-clock : quiet .next < length block → (run : Running) (buffer′ : List ℕ)
+  pub advanced-clock : quiet .next < length block → (run : Running) (buffer′ : List ℕ)
       → leaves run buffer′ ≡ answeredRun (quiet .run) (quiet .next) (stepAnswer columns (quiet .run .receiver) (triggerBit (getD block (quiet .next) 0)) (channelBit (getD block (quiet .next) 0))) buffer
-      → Turned columns block before (record { run = run; next = quiet .next + 1 }) buffer buffer′
-  turned-clock here run buffer′ done =
+      → Advanced columns block before (record { run = run; next = quiet .next + 1 }) buffer buffer′
+  advanced-clock here run buffer′ done =
       let g = q .going in
       record {
         same = clock-turn columns block (quiet .next) (quiet .run) buffer here (g .well-formed) run buffer′ done ∙ q .same buffer;
@@ -149,7 +144,6 @@ module _ (columns : Kind → List ℕ) (block : List ℕ) (before quiet : Turn) 
               within = omega arith;
               few = omega (arith, g .few, turn-records columns block (quiet .next) (quiet .run) buffer here (g .well-formed) run buffer′ done);
               short = g .short;
-              bits = g .bits;
             };
         onward = omega (arith, q .onward);
       }

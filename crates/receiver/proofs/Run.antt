@@ -1,17 +1,17 @@
 -- The clocks of a block, one after the other, come to what the block's definition says. Assumes nothing.
 use mathlib.Core.Path.{_≡_, refl, sym, ap, ap₂, subst, _∙_}
 use mathlib.Core.Logic.{_≢_}
-use mathlib.Core.Bool.{Bool, true, false, not, cond, _||_}
-use mathlib.Core.List.{List, [], _∷_, _++_}
+use mathlib.Core.Bool.{Bool, true, false, not, _||_}
+use mathlib.Core.List.{List, [], _∷_}
 use Prim.Native.Nat.{ℕ, suc, _+_, _*_, _≤_, _<_}
-use native.Mathlib.Nat.{add-zero, add-suc, suc-add, zero-add, mul-suc, mod-lt}
+use native.Mathlib.Nat.{add-zero, add-suc, suc-add, zero-add, mod-lt}
 use native.Mathlib.Numerals.{add-one}
 use native.Mathlib.Omega.{arith}
 use borrow.Author.Tests.{ne-eqb}
 use lib.Dec.{eqb, lit<}
-use lib.ListN.{length, getD, drop, length-append, drop-of-length-le}
+use lib.ListN.{length, getD, drop, length-append}
 use lib.Seq.{sets, drop-cons}
-use Rattle.laws.proofs.Rules.{picked, pick-yes, pick-no, by-test}
+use Rattle.laws.proofs.Rules.{or-true, picked, pick-yes, pick-no, by-test}
 use Rattle.laws.proofs.Sets.{sets-append, sets-front}
 use Rattle.trace_records.specs.Record.{recordNumbers, traceRecord, numbersOf}
 use Rattle.frame.specs.declared.Kind.{Kind}
@@ -30,7 +30,7 @@ use Rattle.trace_records.specs.declared.TraceRecord.{TraceRecord}
 use Rattle.receiver.specs.declared.Running.{Running}
 use Rattle.receiver.specs.IdleClock.{idleClock}
 use Rattle.receiver.specs.Clock.{clockedAnswer, stepAnswer}
-use Rattle.receiver.specs.Block.{triggerBit, channelBit, byteClock, SingleClock, singly, stateAfter, recorded, recordOf, recordsOf, allNumbers, BlockDone, blockDone, blockAnswer, acceptedBlock}
+use Rattle.receiver.specs.Block.{triggerBit, channelBit, byteClock, singly, stateAfter, recorded, recordOf, recordsOf, allNumbers, blockDone, blockAnswer, acceptedBlock}
 use Rattle.receiver.specs.Run.{RunDone, runDone, leaves, withRecord, answeredRun, clocksRun}
 use Rattle.receiver.proofs.Unchecked.{step-is-clock}
 use Rattle.receiver.proofs.Keep.{step-facts}
@@ -44,10 +44,6 @@ trigger-recorded core = refl
 pub nothing-recorded : (core : Core) → recorded (idleClock core 0 .outputs) ≡ false
 unfolding recorded idleClock
 nothing-recorded core = refl
-
-or-true : (a : Bool) → (a || true) ≡ true
-or-true true = refl
-or-true false = refl
 
 verdict-recorded : (shown : Outputs) → shown .verdict ≢ 0 → recorded shown ≡ true
 unfolding recorded

@@ -1,7 +1,7 @@
 -- For document 02, Q-3: a block in the course of its clocks: the receiver, the records so far, and the buffer. Only private contracts cite it.
 use Prim.Native.Nat.{ℕ, suc, _+_, _*_, _%_, _≤_, _<_}
 use mathlib.Core.Path.{_≡_}
-use mathlib.Core.Bool.{true, cond}
+use mathlib.Core.Bool.{cond}
 use mathlib.Core.List.{List, [], _∷_}
 use lib.ListN.{length, drop}
 use lib.Seq.{sets}
@@ -13,9 +13,9 @@ use Rattle.receiver_state.specs.State.{counters, receiver, withCounters}
 use Rattle.receiver.specs.declared.ClockAnswer.{ClockAnswer}
 use Rattle.trace_records.specs.declared.TraceRecord.{TraceRecord}
 use Rattle.receiver.specs.declared.Running.{Running}
-use Rattle.receiver.specs.declared.Turn.{Turn}
+use Rattle.receiver.specs.declared.Progress.{Progress}
 use Rattle.receiver_state.specs.WellFormed.{ReceiverFacts}
-use Rattle.receiver.specs.Block.{byteClock, recorded, recordOf, blockClocks, noByteOver3}
+use Rattle.receiver.specs.Block.{byteClock, recorded, recordOf, blockClocks}
 
 -- `Running`, and the whole buffer
 pub record RunDone : Type 0 where
@@ -46,22 +46,21 @@ clocksRun columns place run (byte ∷ bytes) buffer =
     let next = answeredRun run place (byteClock columns (run .receiver) byte) buffer in
     clocksRun columns (suc place) (next .run) bytes (next .buffer)
 
--- ---- how far a block has come: `Turn` of src/lib.rt
+-- ---- how far a block has come: `Progress` of src/lib.rt
 
-abbrev pub firstTurn : Receiver → Turn
-firstTurn r = record { run = record { receiver = r; records = 0 }; next = 0 }
+abbrev pub atStart : Receiver → Progress
+atStart r = record { run = record { receiver = r; records = 0 }; next = 0 }
 
 -- what was checked before the first clock, and what the clocks since then leave true
-pub record Going (turn : Turn) (block : List ℕ) : Type 0 where
-  pub well-formed : ReceiverFacts (turn .run .receiver)
-  pub within : turn .next ≤ length block
-  pub few : turn .run .records ≤ turn .next
+pub record ProgressFacts (progress : Progress) (block : List ℕ) : Type 0 where
+  pub well-formed : ReceiverFacts (progress .run .receiver)
+  pub within : progress .next ≤ length block
+  pub few : progress .run .records ≤ progress .next
   pub short : length block ≤ blockClocks
-  pub bits : noByteOver3 block ≡ true
 
 -- what the clocks still to come leave
-abbrev pub rest : (Kind → List ℕ) → List ℕ → Turn → List ℕ → RunDone
-rest columns block turn buffer = clocksRun columns (turn .next) (turn .run) (drop (turn .next) block) buffer
+abbrev pub rest : (Kind → List ℕ) → List ℕ → Progress → List ℕ → RunDone
+rest columns block progress buffer = clocksRun columns (progress .next) (progress .run) (drop (progress .next) block) buffer
 
 -- so many clocks without a trigger, with no sequence running and no frame finished: only the bunch counter and the bits held move
 abbrev pub quietRun : ℕ → Held → Running → Running
@@ -73,13 +72,13 @@ quietRun clocks held run =
     }
 
 -- some clocks were done, or none, and wrote no record
-pub record Quiet (columns : Kind → List ℕ) (block : List ℕ) (before after : Turn) : Type 0 where
+pub record Quiet (columns : Kind → List ℕ) (block : List ℕ) (before after : Progress) : Type 0 where
   pub same : (buffer : List ℕ) → rest columns block after buffer ≡ rest columns block before buffer
-  pub going : Going after block
+  pub going : ProgressFacts after block
   pub onward : before .next ≤ after .next
 
 -- some clocks were done
-pub record Turned (columns : Kind → List ℕ) (block : List ℕ) (before after : Turn) (buffer₀ buffer₁ : List ℕ) : Type 0 where
+pub record Advanced (columns : Kind → List ℕ) (block : List ℕ) (before after : Progress) (buffer₀ buffer₁ : List ℕ) : Type 0 where
   pub same : rest columns block after buffer₁ ≡ rest columns block before buffer₀
-  pub going : Going after block
+  pub going : ProgressFacts after block
   pub onward : before .next < after .next

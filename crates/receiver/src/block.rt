@@ -1,9 +1,9 @@
 // Document 02, Q-3: a block of clocks in one call.
 //
 // The state goes by value, as for a single clock. A block is only read, and is lent by `&`; records
-// go to the caller's own buffer, lent by `&mut`. Block and state are checked once, and then no clock
-// checks anything: `run_clock` is the unchecked step, with the frame that finishes, which is rare,
-// apart from the clocks that finish none. So the compiler keeps the state of the loop in registers.
+// go to the caller's own buffer, lent by `&mut`. Block and state are checked once. After that a clock
+// is done by the parts of the unchecked step, `take_bit`, `idle_clock` and `finish`, and not by `step`
+// itself: this is faster (docs/DECISIONS.md, "Blocks of clocks").
 ghost use mathlib.Core.Path.{_≡_};
 ghost use mathlib.Core.List.{_++_};
 ghost use Prim.Native.Nat.{_+_, _*_, _<_, _≤_};
@@ -15,11 +15,11 @@ ghost use Rattle.fate.specs.Fate.{columnsOf, finishedAnswer, finished};
 ghost use Rattle.receiver.specs.IdleClock.{idleClock};
 ghost use Rattle.receiver.specs.Clock.{clockedAnswer, stepAnswer};
 ghost use Rattle.receiver.specs.Block.{triggerBit, channelBit, blockDone, blockAnswer, blockClocks, noByteOver3, runBlock};
-ghost use Rattle.receiver.specs.Run.{leaves, withRecord, answeredRun, clocksRun, firstTurn, Going, quietRun, Quiet, Turned};
+ghost use Rattle.receiver.specs.Run.{leaves, withRecord, answeredRun, clocksRun, atStart, ProgressFacts, quietRun, Quiet, Advanced};
 use crate::BlockAnswer;
+use crate::Progress;
 use crate::Running;
 use crate::Taken;
-use crate::Turn;
 use crate::channel_b::take_bit;
 use crate::idle::idle_clock;
 use fate::finish;
@@ -27,8 +27,11 @@ use frame::Kind;
 use receiver_state::Held;
 use receiver_state::Receiver;
 use receiver_state::well_formed;
+use trace_records::RECORD_NUMBERS;
 use trace_records::TraceRecord;
 use trace_records::record_of;
+
+const BLOCK_CLOCKS: usize = 4096;
 
 // Whether no byte is over 3. Quotients are summed and tested once, so that the loop has no exit of
 // its own and many bytes are taken at a time.
@@ -62,7 +65,7 @@ fn add_record(receiver: Receiver, records: usize, new: TraceRecord, buffer: &mut
     requires { ⌜ recordNumbers * records + recordNumbers ≤ length (now buffer) ⌝ }
     ensures { λ r. ⌜ leaves r (now (buffer .exit)) ≡ withRecord receiver records new (now (buffer .entry)) ⌝ }
 {
-    let next = 5 * records;
+    let next = RECORD_NUMBERS * records;
     put_record(&mut buffer[next..], new);
     Running {
         receiver,
@@ -121,10 +124,9 @@ fn run_finished(
     )
 }
 
-// One clock of a block, on a state that is known to be well formed, with a byte that is known to be
-// in range, and with room for a record.
+// One clock of a block, on a state that is known to be well formed, with room for a record.
 fn run_clock(run: Running, place: u32, byte: u8, buffer: &mut [u32]) -> Running
-    requires { ⌜ (ReceiverFacts (run .receiver)) × (byte < 4) × (recordNumbers * run .records + recordNumbers ≤ length (now buffer)) ⌝ }
+    requires { ⌜ (ReceiverFacts (run .receiver)) × (recordNumbers * run .records + recordNumbers ≤ length (now buffer)) ⌝ }
     ensures { λ r. ⌜ leaves r (now (buffer .exit)) ≡ answeredRun run place (stepAnswer columnsOf (run .receiver) (triggerBit byte) (channelBit byte)) (now (buffer .entry)) ⌝ }
 {
     let trigger = byte % 2;
@@ -154,78 +156,77 @@ fn after_quiet(run: Running, clocks: usize, held: Held) -> Running
 
 // The clocks up to the next trigger or finished frame, where no sequence is running. They have no
 // record, and are counted together.
-fn run_quiet(turn: Turn, block: &[u8]) -> Turn
-    requires { ⌜ (Going turn (now block)) × (turn .run .receiver .core .sequence .left ≡ 0) ⌝ }
-    ensures { λ r. ⌜ Quiet columnsOf (now (block .entry)) turn r ⌝ }
+fn run_quiet(progress: Progress, block: &[u8]) -> Progress
+    requires { ⌜ (ProgressFacts progress (now block)) × (progress .run .receiver .core .sequence .left ≡ 0) ⌝ }
+    ensures { λ r. ⌜ Quiet columnsOf (now (block .entry)) progress r ⌝ }
 {
-    let mut held = turn.run.receiver.held;
-    let mut at = turn.next;
+    let mut held = progress.run.receiver.held;
+    let mut at = progress.next;
     while at < block.len() {
         let byte = block[at];
         if byte % 2 == 1 {
-            let run = after_quiet(turn.run, at - turn.next, held);
-            return Turn { run, next: at };
+            let run = after_quiet(progress.run, at - progress.next, held);
+            return Progress { run, next: at };
         }
         let taken = take_bit(held, byte / 2 % 2);
         let Taken::Unfinished(longer) = taken else {
-            let run = after_quiet(turn.run, at - turn.next, held);
-            return Turn { run, next: at };
+            let run = after_quiet(progress.run, at - progress.next, held);
+            return Progress { run, next: at };
         };
         held = longer;
         at += 1;
     }
-    let run = after_quiet(turn.run, at - turn.next, held);
-    Turn { run, next: at }
+    let run = after_quiet(progress.run, at - progress.next, held);
+    Progress { run, next: at }
 }
 
 // The quiet clocks that come next, if any. A trigger is tested first: where triggers are frequent
 // it is the reason that there are none.
-fn quiet_part(turn: Turn, block: &[u8]) -> Turn
-    requires { ⌜ (Going turn (now block)) × (turn .next < length (now block)) ⌝ }
-    ensures { λ r. ⌜ Quiet columnsOf (now (block .entry)) turn r ⌝ }
+fn quiet_part(progress: Progress, block: &[u8]) -> Progress
+    requires { ⌜ (ProgressFacts progress (now block)) × (progress .next < length (now block)) ⌝ }
+    ensures { λ r. ⌜ Quiet columnsOf (now (block .entry)) progress r ⌝ }
 {
-    let place = turn.next;
+    let place = progress.next;
     if block[place] % 2 == 1 {
-        return turn;
+        return progress;
     }
-    if turn.run.receiver.core.sequence.left > 0 {
-        return turn;
+    if progress.run.receiver.core.sequence.left > 0 {
+        return progress;
     }
-    run_quiet(turn, block)
+    run_quiet(progress, block)
 }
 
-// The quiet clocks that come next, and the clock behind them.
-fn run_turn(turn: Turn, block: &[u8], buffer: &mut [u32]) -> Turn
-    requires { ⌜ (Going turn (now block)) × (turn .next < length (now block)) × (recordNumbers * length (now block) ≤ length (now buffer)) ⌝ }
-    ensures { λ r. ⌜ Turned columnsOf (now (block .entry)) turn r (now (buffer .entry)) (now (buffer .exit)) ⌝ }
+// Goes on by the quiet clocks that come next, and the clock behind them.
+fn advance(progress: Progress, block: &[u8], buffer: &mut [u32]) -> Progress
+    requires { ⌜ (ProgressFacts progress (now block)) × (progress .next < length (now block)) × (recordNumbers * length (now block) ≤ length (now buffer)) ⌝ }
+    ensures { λ r. ⌜ Advanced columnsOf (now (block .entry)) progress r (now (buffer .entry)) (now (buffer .exit)) ⌝ }
 {
-    let quiet = quiet_part(turn, block);
+    let quiet = quiet_part(progress, block);
     let place = quiet.next;
     if place == block.len() {
         return quiet;
     }
     let run = run_clock(quiet.run, place as u32, block[place], buffer);
-    Turn {
+    Progress {
         run,
         next: place + 1,
     }
 }
 
-// The clocks of a block that is known to be one, on a state that is known to be well formed, with
-// room for a record of each.
+// All clocks of a block, on a state that is known to be well formed, with room for a record of each.
 fn run_clocks(receiver: Receiver, block: &[u8], buffer: &mut [u32]) -> Running
-    requires { ⌜ (Going (firstTurn receiver) (now block)) × (recordNumbers * length (now block) ≤ length (now buffer)) ⌝ }
-    ensures { λ r. ⌜ leaves r (now (buffer .exit)) ≡ clocksRun columnsOf 0 (firstTurn receiver .run) (now (block .entry)) (now (buffer .entry)) ⌝ }
+    requires { ⌜ (ProgressFacts (atStart receiver) (now block)) × (recordNumbers * length (now block) ≤ length (now buffer)) ⌝ }
+    ensures { λ r. ⌜ leaves r (now (buffer .exit)) ≡ clocksRun columnsOf 0 (atStart receiver .run) (now (block .entry)) (now (buffer .entry)) ⌝ }
 {
     let run = Running {
         receiver,
         records: 0,
     };
-    let mut turn = Turn { run, next: 0 };
-    while turn.next < block.len() {
-        turn = run_turn(turn, block, buffer);
+    let mut progress = Progress { run, next: 0 };
+    while progress.next < block.len() {
+        progress = advance(progress, block, buffer);
     }
-    turn.run
+    progress.run
 }
 
 fn refuse_block(refusal: u8, receiver: Receiver) -> BlockAnswer
@@ -245,10 +246,10 @@ pub fn run_block(receiver: Receiver, block: &[u8], buffer: &mut [u32]) -> BlockA
     if !well_formed(receiver) {
         return refuse_block(2, receiver);
     }
-    if block.len() > 4096 {
+    if block.len() > BLOCK_CLOCKS {
         return refuse_block(15, receiver);
     }
-    if buffer.len() < 5 * block.len() {
+    if buffer.len() < RECORD_NUMBERS * block.len() {
         return refuse_block(16, receiver);
     }
     if !no_byte_over_3(block) {

@@ -44,7 +44,6 @@ pub struct Bus {
 }
 
 // What a block answers: the number of refusal, the state, and how many records were written.
-#[repr(C)]
 pub struct BlockAnswer {
     pub refusal: u8,
     pub receiver: Receiver,
@@ -58,7 +57,7 @@ pub struct Running {
 }
 
 // How far a block has come: what its clocks left so far, and the place of the next one.
-pub struct Turn {
+pub struct Progress {
     pub run: Running,
     pub next: usize,
 }

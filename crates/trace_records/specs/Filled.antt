@@ -7,10 +7,10 @@ use lib.Dec.{leb}
 use lib.ListN.{length, take}
 use Rattle.trace_records.specs.Record.{recordNumbers}
 
--- how many numbers so many records are, in a buffer of that length; none where they are more than it has
+-- how many numbers that many records take up; 0 where the buffer has less room
 unfoldable pub filledLength : ℕ → ℕ → ℕ
 filledLength room records = cond (leb (recordNumbers * records) room) (recordNumbers * records) 0
 
--- the numbers that are handed back; where they are none, the part is the buffer's empty front
+-- the numbers that are handed back
 abbrev pub filledPart : List ℕ → ℕ → List ℕ
 filledPart buffer records = take (filledLength (length buffer) records) buffer

@@ -4,7 +4,6 @@
 // A record goes by value. The buffer is lent by `&`, and what comes back is a part of it: nothing is
 // copied, and no number of the caller's can change.
 ghost use mathlib.Core.Path.{_≡_};
-ghost use lib.ListN.{length};
 ghost use Rattle.trace_records.specs.Record.{traceRecord};
 ghost use Rattle.trace_records.specs.Filled.{filledLength, filledPart};
 use fate::Outputs;
@@ -20,7 +19,7 @@ pub struct TraceRecord {
 }
 
 // The numbers of one record.
-const RECORD_NUMBERS: usize = 5;
+pub const RECORD_NUMBERS: usize = 5;
 
 // The record of the clock at a place, with these counters before it and these outputs.
 pub fn record_of(place: u32, before: Counters, outputs: Outputs) -> TraceRecord
@@ -38,18 +37,18 @@ pub fn record_of(place: u32, before: Counters, outputs: Outputs) -> TraceRecord
     }
 }
 
-// How many numbers at the front of a buffer so many records are: none where they don't fit. The
-// length is divided, so that no product wraps.
-pub fn filled_length(length: usize, records: usize) -> usize
-    ensures { λ r. ⌜ r ≡ filledLength length records ⌝ }
+// How many numbers that many records take up; 0 where the buffer has less room. The room is divided,
+// so that no product wraps.
+pub fn filled_length(room: usize, records: usize) -> usize
+    ensures { λ r. ⌜ r ≡ filledLength room records ⌝ }
 {
-    if records <= length / RECORD_NUMBERS {
+    if records <= room / RECORD_NUMBERS {
         return RECORD_NUMBERS * records;
     }
     0
 }
 
-// The front part of the caller's own buffer that holds so many records: its empty front where they
+// The front part of the caller's own buffer that so many records take up; its empty front where they
 // don't fit.
 pub fn filled(buffer: &[u32], records: usize) -> &[u32]
     ensures { λ r. ⌜ now r ≡ filledPart (now (buffer .entry)) records ⌝ }

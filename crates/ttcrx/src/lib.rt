@@ -195,10 +195,10 @@ pub extern "C" fn ttcrx_run_block(
 
 // A returned part can't be exported: a caller in C gets its length.
 #[no_mangle]
-pub extern "C" fn ttcrx_filled_length(length: usize, records: usize) -> usize
-    ensures { λ r. ⌜ r ≡ filledLength length records ⌝ }
+pub extern "C" fn ttcrx_filled_length(room: usize, records: usize) -> usize
+    ensures { λ r. ⌜ r ≡ filledLength room records ⌝ }
 {
-    filled_length(length, records)
+    filled_length(room, records)
 }
 
 #[no_mangle]

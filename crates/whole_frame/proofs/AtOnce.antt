@@ -1,12 +1,12 @@
 -- A whole frame on a waiting receiver, without triggers: its clocks but the last only count, and the last one finishes it. Assumes nothing.
 use mathlib.Core.Path.{_≡_, refl, sym, ap, ap₂, subst, _∙_}
 use mathlib.Core.Bool.{true}
-use mathlib.Core.List.{List, [], _∷_}
+use mathlib.Core.List.{List}
 use Prim.Native.Nat.{ℕ, zero, suc, _+_, _-_, _*_, _/_, _%_, _^_, _≤_, _<_}
 use native.Mathlib.Nat.{add-zero, mod-lt}
 use native.Mathlib.Numerals.{add-one}
 use native.Mathlib.Omega.{arith}
-use borrow.Author.Tests.{eqb-true, ltb-true, ltb-false, eqb-false}
+use borrow.Author.Tests.{eqb-true, ltb-true}
 use lib.Dec.{eqb, ltb, lit<}
 use Rattle.laws.proofs.Rules.{picked, picked-by}
 use Rattle.frame.specs.declared.Kind.{Kind}
@@ -18,16 +18,14 @@ use Rattle.receiver_state.specs.declared.Core.{Core}
 use Rattle.receiver_state.specs.declared.Held.{Held}
 use Rattle.receiver_state.specs.declared.Receiver.{Receiver}
 use Rattle.receiver_state.specs.State.{counters, noSequence, holding, nothingHeld, receiver, withCounters, withSequence}
-use Rattle.receiver_state.specs.WellFormed.{CoreFacts, HeldFacts, ReceiverFacts}
+use Rattle.receiver_state.specs.WellFormed.{ReceiverFacts}
 use Rattle.fate.specs.declared.Clocked.{Clocked}
 use Rattle.fate.specs.Laws.{finishedBy}
 use Rattle.receiver.specs.declared.Bus.{Bus}
 use Rattle.receiver.specs.declared.ClockAnswer.{ClockAnswer}
-use Rattle.receiver.specs.declared.Taken.{Taken}
-use Rattle.receiver.specs.declared.Taken.the-variants.{Unfinished, Finished}
-use Rattle.receiver.specs.TakeBit.{takeBit, heldAfter}
-use Rattle.receiver.specs.IdleClock.{countClock, continued, started, busStep, busOf, idleClock}
-use Rattle.receiver.specs.Clock.{noOutputs, clockedAnswer, clockAnswer}
+use Rattle.receiver.specs.TakeBit.{takeBit}
+use Rattle.receiver.specs.IdleClock.{countClock, continued, busStep, busOf, idleClock}
+use Rattle.receiver.specs.Clock.{clockedAnswer, clockAnswer}
 use Rattle.receiver.specs.Laws.{firstBits, bitAfter}
 use Rattle.whole_frame.specs.WholeFrame.{bitsOf, clocksAnswer, noClock, stillClocked}
 use Rattle.receiver.proofs.Bits.{bit-law}

@@ -15,7 +15,7 @@ use Rattle.fate.proofs.Laws.{fate-theorem, tables-good}
 use Rattle.receiver.specs.declared.ClockAnswer.{ClockAnswer}
 use Rattle.receiver.specs.TakeBit.{Waits}
 use Rattle.receiver.specs.Clock.{clockAnswer}
-use Rattle.whole_frame.specs.WholeFrame.{bitsOf, clocksAnswer, noClock, receiveAnswer, HasItsFate, SomeVerdict, WholeFrameLaw, WholeFrameTheorem, ReceiverWholeFrames}
+use Rattle.whole_frame.specs.WholeFrame.{bitsOf, clocksAnswer, noClock, receiveAnswer, HasItsFate, SomeVerdict, WholeFrameTheorem, ReceiverWholeFrames}
 use Rattle.receiver.proofs.Bits.{bit-law}
 use Rattle.whole_frame.proofs.AtOnce.{at-once}
 use Rattle.receiver.proofs.Laws.{clock-theorem}

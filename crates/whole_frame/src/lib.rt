@@ -41,8 +41,8 @@ fn frame_bits(kind: Kind) -> u8
     }
 }
 
-// So many bits of a number, one a clock, without triggers. Each clock checks the state: the compiler
-// puts the unchecked step into `clock`, its only caller, and calling it from here too makes both slower.
+// So many bits of a number, one a clock, without triggers. Each clock checks the state: the unchecked
+// step is private to `receiver`. This is for receivers that hold bits of another frame.
 fn receive_bits(receiver: Receiver, count: u8, number: u64) -> ClockAnswer
     requires { ⌜ count ≤ 64 ⌝ }
     ensures { λ r. ⌜ r ≡ clocksAnswer columnsOf (noClock receiver) (bitsOf count number) ⌝ }

@@ -3,10 +3,10 @@
 use crate::ffi::Receiver;
 use core::mem::{align_of, offset_of, size_of};
 
-/// `ttcrx_block_answer`
+/// `ttcrx_block_outcome`
 #[repr(C)]
 #[derive(Clone, Copy, Debug, Default, PartialEq, Eq)]
-pub struct BlockAnswer {
+pub struct BlockOutcome {
     pub refusal: u8,
     pub records: usize,
 }
@@ -18,10 +18,10 @@ extern "C" {
         block_length: usize,
         buffer: *mut u32,
         buffer_length: usize,
-    ) -> BlockAnswer;
+    ) -> BlockOutcome;
     pub fn ttcrx_filled_length(buffer_length: usize, records: usize) -> usize;
 }
 
-const _: () = assert!(size_of::<BlockAnswer>() == 16 && align_of::<BlockAnswer>() == 8);
-const _: () = assert!(offset_of!(BlockAnswer, refusal) == 0);
-const _: () = assert!(offset_of!(BlockAnswer, records) == 8);
+const _: () = assert!(size_of::<BlockOutcome>() == 16 && align_of::<BlockOutcome>() == 8);
+const _: () = assert!(offset_of!(BlockOutcome, refusal) == 0);
+const _: () = assert!(offset_of!(BlockOutcome, records) == 8);

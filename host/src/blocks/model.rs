@@ -1,7 +1,7 @@
 //! A second model of Q-3 of document 02, "A whole captured trace in one call": single clocks of the
 //! model's receiver, and a record of each that has one.
 
-use super::ffi::BlockAnswer;
+use super::ffi::BlockOutcome;
 use crate::ffi;
 use crate::receiver::{Outputs, Receiver, Verdict};
 
@@ -45,7 +45,7 @@ fn code(outputs: &Outputs) -> u32 {
 }
 
 /// Q-3: "For each clock with a trigger or a verdict other than 0, write five 32-bit numbers: place
-/// in the block (from 0), bunch and event counts before the clock, a code, the word."
+/// in the block (from 0), bunch and event counts before the clock, a code .., the word."
 #[inline]
 fn clock(receiver: &mut Receiver, place: u32, byte: u8) -> Option<[u32; NUMBERS]> {
     let (bunch, event) = (receiver.bunch(), receiver.event());
@@ -81,13 +81,13 @@ fn run_state(state: &mut ffi::Receiver, block: &[u8], out: &mut [u32]) -> Result
 }
 
 /// The answer of `ttcrx_run_block`.
-pub fn run_block(state: &mut ffi::Receiver, block: &[u8], out: &mut [u32]) -> BlockAnswer {
-    let refused = |refusal| BlockAnswer {
+pub fn run_block(state: &mut ffi::Receiver, block: &[u8], out: &mut [u32]) -> BlockOutcome {
+    let refused = |refusal| BlockOutcome {
         refusal: refusal as u8,
-        ..BlockAnswer::default()
+        ..BlockOutcome::default()
     };
     let answer = run_state(state, block, out);
-    answer.map_or_else(refused, |records| BlockAnswer {
+    answer.map_or_else(refused, |records| BlockOutcome {
         refusal: 0,
         records,
     })

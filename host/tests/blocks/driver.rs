@@ -1,6 +1,6 @@
 //! Blocks of the library, each compared with the model's single clocks.
 
-use ttcrx_host::blocks::ffi::BlockAnswer;
+use ttcrx_host::blocks::ffi::BlockOutcome;
 use ttcrx_host::blocks::model::{self, NUMBERS};
 use ttcrx_host::blocks::ttcrx as library;
 use ttcrx_host::cases::Cases;
@@ -31,8 +31,8 @@ pub fn noise(random: &mut Random, length: usize) -> Vec<u8> {
 }
 
 /// What a refused block answers.
-pub fn refused(refusal: u8) -> BlockAnswer {
-    BlockAnswer {
+pub fn refused(refusal: u8) -> BlockOutcome {
+    BlockOutcome {
         refusal,
         records: 0,
     }
@@ -50,7 +50,7 @@ impl Driver {
     /// One block of the library beside the model's, with a buffer of so many random numbers:
     /// answers, states and whole buffers are equal. Gives the answer and the records.
     #[track_caller]
-    pub fn block(&mut self, block: &[u8], room: usize) -> (BlockAnswer, Vec<u32>) {
+    pub fn block(&mut self, block: &[u8], room: usize) -> (BlockOutcome, Vec<u32>) {
         let before = Lent::filled(room, || self.random.number() as u32);
         let (mut buffer, mut expected_buffer) = (before.clone(), before.clone());
         let start = self.state;
@@ -91,7 +91,7 @@ impl Driver {
 
     /// A block that is refused by this number, or not at all by 0.
     #[track_caller]
-    pub fn expect(&mut self, refusal: u8, block: &[u8], room: usize) -> BlockAnswer {
+    pub fn expect(&mut self, refusal: u8, block: &[u8], room: usize) -> BlockOutcome {
         let input = (self.state, block.len(), room);
         let (answer, _) = self.block(block, room);
         self.cases.same(input, answer.refusal, refusal);

@@ -1,7 +1,7 @@
 //! Empty blocks and empty buffers, as slices and as null pointers.
 
 use crate::driver::refused;
-use ttcrx_host::blocks::ffi::BlockAnswer;
+use ttcrx_host::blocks::ffi::BlockOutcome;
 use ttcrx_host::blocks::model::CLOCKS;
 use ttcrx_host::blocks::ttcrx as library;
 use ttcrx_host::cases::Cases;
@@ -14,8 +14,8 @@ use ttcrx_host::{states, ttcrx};
 fn leave(
     cases: &mut Cases,
     state: Receiver,
-    calls: &mut [&mut dyn FnMut(&mut Receiver) -> BlockAnswer],
-    expected: BlockAnswer,
+    calls: &mut [&mut dyn FnMut(&mut Receiver) -> BlockOutcome],
+    expected: BlockOutcome,
 ) {
     for call in calls {
         let mut after = state;
@@ -25,7 +25,7 @@ fn leave(
 }
 
 /// No clock is done: the answer is 0, or 2 for a receiver that is not well formed.
-fn empty_blocks(cases: &mut Cases, state: Receiver, expected: BlockAnswer) {
+fn empty_blocks(cases: &mut Cases, state: Receiver, expected: BlockOutcome) {
     let (mut first, mut second) = ([0xA5A5_A5A5; 7], [0xA5A5_A5A5; 7]);
     leave(
         cases,

@@ -104,7 +104,7 @@ fn random_ones() {
     cases.at_least(2_000_000);
 }
 
-/// The part of a buffer is the caller's own: it begins where the buffer does.
+/// The wrapper's part of a buffer, cut by the library's length, begins where the buffer does.
 #[track_caller]
 fn front(cases: &mut Cases, buffer: &[u32], records: usize, expected: usize) {
     let part = filled(buffer, records);

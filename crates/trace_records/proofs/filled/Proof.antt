@@ -1,7 +1,6 @@
 -- `trace_records::filled` meets its contract. Assumes nothing.
 use mathlib.Core.Path.{refl, sym}
 use lib.Seq.{length-take-le}
-use native.Mathlib.Omega.{arith}
 use Rattle.trace_records.proofs.Within.{within}
 use borrow.Author.Needs.{needs}
 use Rattle.trace_records.proofs.filled.Statement.{statement}

@@ -15,14 +15,14 @@ returns : tie.Need-returns
 unfolding filledLength
 returns c =
     let given = c .before .args in
-    let fit : recordNumbers * given .records ≤ given .length = omega arith in
+    let fit : recordNumbers * given .records ≤ given .room = omega arith in
     rw (le-leb _ _ fit)
 
 returns-2 : tie.Need-returns-2
 unfolding filledLength
 returns-2 c =
     let given = c .before .args in
-    let over : given .length < recordNumbers * given .records = omega arith in
+    let over : given .room < recordNumbers * given .records = omega arith in
     rw (lt-leb _ _ over)
 
 pub filled-length-spec : {M : Type 1} → statement M

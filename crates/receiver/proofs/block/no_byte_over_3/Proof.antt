@@ -1,18 +1,14 @@
 -- `receiver::block::no_byte_over_3` meets its contract. The invariant: the sum so far is 0, and the bytes to come pass, exactly if all bytes pass.
 -- Assumes nothing.
-use mathlib.Core.Path.{_≡_, refl, sym, ap, ap₂, _∙_}
-use mathlib.Core.Bool.{Bool, true, false, _&&_}
-use mathlib.Core.List.{List}
-use Prim.Native.Nat.{ℕ, suc, _+_, _*_, _-_, _/_, _≤_, _<_}
-use native.Mathlib.Numerals.{add-one}
+use mathlib.Core.Path.{refl, _≡_, sym, ap, _∙_}
+use mathlib.Core.Bool.{Bool, _&&_}
+use Prim.Native.Nat.{_*_, _-_, _≤_}
 use native.Mathlib.Omega.{arith}
-use lib.Dec.{eqb, leb}
-use lib.ListN.{length, getD, drop, drop-of-length-le}
-use lib.Seq.{drop-cons}
-use Rattle.laws.specs.Tests.{every}
-use Rattle.laws.specs.Table.{testsFrom, everyEntry}
+use lib.Dec.{eqb}
+use lib.ListN.{length}
 use Rattle.receiver.specs.Block.{blockClocks, noByteOver3}
-use Rattle.receiver.proofs.InRange.{passesFrom, at-first, at-last, next-byte, and-true}
+use Rattle.laws.proofs.Rules.{and-last}
+use Rattle.receiver.proofs.InRange.{passesFrom, at-first, at-last, next-byte}
 use borrow.Author.Needs.{needs}
 use Rattle.receiver.proofs.block.no_byte_over_3.Statement.{statement}
 use Rattle.receiver.proofs.block.no_byte_over_3.Tie as tie
@@ -54,7 +50,7 @@ returns : tie.Need-returns Inv-loop μ-loop
 returns c =
     let at = c .before .loop in
     let test = ap (λ (p : Bool). eqb (at .over) 0 && p) (at-last (c .before .before .args .block .now) (at .i) (search needs)) in
-    sym (and-true (eqb (at .over) 0)) ∙ sym test ∙ at .inv .3
+    and-last (eqb (at .over) 0) _ refl ∙ sym test ∙ at .inv .3
 
 pub no-byte-over-3-spec : {M : Type 1} → statement M
 no-byte-over-3-spec =

@@ -63,7 +63,6 @@ run-clocks-requires c κs = (
     within = omega arith;
     few = omega arith;
     short = search needs;
-    bits = search granted;
   },
   search needs,
 )

@@ -1,7 +1,5 @@
 -- `receiver::block::run_clock` meets its contract: it is the unchecked step, by what the bit leaves. Assumes nothing.
 use mathlib.Core.Path.{sym, ap, _∙_}
-use native.Mathlib.Nat.{mod-lt}
-use lib.Dec.{lit<}
 use Rattle.fate.specs.Fate.{columnsOf}
 use Rattle.receiver.specs.declared.ClockAnswer.{ClockAnswer}
 use Rattle.receiver.specs.Block.{triggerBit, channelBit}

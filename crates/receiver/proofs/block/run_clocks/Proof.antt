@@ -5,32 +5,32 @@ use Prim.Native.Nat.{ℕ, _-_}
 use native.Mathlib.Omega.{arith}
 use lib.ListN.{length, drop-of-length-le}
 use Rattle.fate.specs.Fate.{columnsOf}
-use Rattle.receiver.specs.Run.{clocksRun, Going, rest}
+use Rattle.receiver.specs.Run.{clocksRun, ProgressFacts, rest}
 use borrow.Author.Needs.{needs}
 use Rattle.receiver.proofs.block.run_clocks.Statement.{statement}
 use Rattle.receiver.proofs.block.run_clocks.Tie as tie
 
 abbrev Inv-loop : tie.InvT-loop
-Inv-loop block buffer₀ turn₀ buffer turn = (Going turn block) × (length buffer ≡ length buffer₀) × (rest columnsOf block turn buffer ≡ rest columnsOf block turn₀ buffer₀)
+Inv-loop block buffer₀ progress₀ buffer progress = (ProgressFacts progress block) × (length buffer ≡ length buffer₀) × (rest columnsOf block progress buffer ≡ rest columnsOf block progress₀ buffer₀)
 
 abbrev μ-loop : tie.MeasureT-loop
-μ-loop block buffer₀ turn₀ buffer turn = length block - turn .next
+μ-loop block buffer₀ progress₀ buffer progress = length block - progress .next
 
 loop-holds : tie.Need-loop-holds Inv-loop μ-loop
 loop-holds c = (c .before .before .pre .0, refl, refl)
 
-run-turn-requires : tie.Need-run-turn-requires Inv-loop μ-loop
-run-turn-requires c κs =
+advance-requires : tie.Need-advance-requires Inv-loop μ-loop
+advance-requires c κs =
     let inv = c .before .before .before .loop .inv in
     (inv .0, c .before .if1 .taken, omega (arith, inv .1, c .before .before .before .before .before .before .pre .1))
 
 loop-less : tie.Need-loop-less Inv-loop μ-loop
-loop-less c = let turned = c .before .before .run-turn .ensures in omega (arith, turned .onward, turned .going .within)
+loop-less c = let turned = c .before .before .advance .ensures in omega (arith, turned .onward, turned .going .within)
 
 loop-again : tie.Need-loop-again Inv-loop μ-loop
 loop-again c =
     let inv = c .before .before .before .before .before .before .loop .inv in
-    let turn = c .before .before .run-turn in
+    let turn = c .before .before .advance in
     (turn .ensures .going, turn .kept .1 .1 .0 ∙ inv .1, turn .ensures .same ∙ inv .2)
 
 same-length : tie.Need-same-length Inv-loop μ-loop
@@ -41,7 +41,7 @@ unfolding clocksRun
 returns c =
     let last = c .before .before .before .loop in
     let block = c .before .before .before .before .before .before .args .block .now in
-    ap (λ (bytes : List ℕ). clocksRun columnsOf (last .turn .next) (last .turn .run) bytes (last .buffer)) (sym (drop-of-length-le block {i = last .turn .next} (search needs)))
+    ap (λ (bytes : List ℕ). clocksRun columnsOf (last .progress .next) (last .progress .run) bytes (last .buffer)) (sym (drop-of-length-le block {i = last .progress .next} (search needs)))
     ∙ last .inv .2
 
 pub run-clocks-spec : {M : Type 1} → statement M
@@ -51,7 +51,7 @@ run-clocks-spec =
     Inv-loop
     μ-loop
     loop-holds
-    run-turn-requires
+    advance-requires
     loop-less
     loop-again
     same-length

@@ -1,7 +1,7 @@
 -- `receiver::block::run_quiet` meets its contract. The invariant: the clocks passed were quiet, and all but the bits held is as at the first of them,
 -- but for the bunch counter. Assumes nothing.
-use mathlib.Core.Path.{_≡_, sym, _∙_}
-use Prim.Native.Nat.{ℕ, _-_, _≤_}
+use mathlib.Core.Path.{sym, _∙_}
+use Prim.Native.Nat.{_-_}
 use native.Mathlib.Omega.{arith}
 use lib.ListN.{length}
 use native.Mathlib.Nat.{mod-lt}
@@ -13,10 +13,10 @@ use Rattle.receiver.proofs.block.run_quiet.Statement.{statement}
 use Rattle.receiver.proofs.block.run_quiet.Tie as tie
 
 abbrev Inv-loop : tie.InvT-loop
-Inv-loop turn block held₀ at₀ held at = QuietTo columnsOf turn block held at
+Inv-loop progress block held₀ at₀ held at = QuietTo columnsOf progress block held at
 
 abbrev μ-loop : tie.MeasureT-loop
-μ-loop turn block held₀ at₀ held at = length block - at
+μ-loop progress block held₀ at₀ held at = length block - at
 
 loop-holds : tie.Need-loop-holds Inv-loop μ-loop
 loop-holds c = quiet-first columnsOf _ _ (c .before .before .pre .0)

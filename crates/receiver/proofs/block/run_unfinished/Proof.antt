@@ -1,7 +1,6 @@
 -- `receiver::block::run_unfinished` meets its contract: with no verdict, a trigger alone makes a record. Assumes nothing.
 use mathlib.Core.Path.{_≡_, refl, sym, ap, subst, _∙_}
 use mathlib.Core.Bool.{true, false}
-use Prim.Native.Nat.{ℕ}
 use native.Mathlib.Omega.{arith}
 use Rattle.fate.specs.declared.Clocked.{Clocked}
 use Rattle.receiver.specs.IdleClock.{idleClock}

@@ -1,13 +1,12 @@
--- `receiver::block::run_turn` meets its contract. Assumes nothing.
+-- `receiver::block::advance` meets its contract. Assumes nothing.
 use Prim.Native.Nat.{_<_}
 use native.Mathlib.Omega.{arith}
 use lib.ListN.{length}
 use Rattle.fate.specs.Fate.{columnsOf}
-use Rattle.receiver.proofs.InRange.{byte-below}
-use Rattle.receiver.proofs.Quiet.{turned-last, turned-clock}
+use Rattle.receiver.proofs.Quiet.{advanced-last, advanced-clock}
 use borrow.Author.Needs.{needs}
-use Rattle.receiver.proofs.block.run_turn.Statement.{statement}
-use Rattle.receiver.proofs.block.run_turn.Tie as tie
+use Rattle.receiver.proofs.block.advance.Statement.{statement}
+use Rattle.receiver.proofs.block.advance.Tie as tie
 
 quiet-part-requires : tie.Need-quiet-part-requires
 quiet-part-requires c κs = search needs
@@ -15,7 +14,7 @@ quiet-part-requires c κs = search needs
 returns : tie.Need-returns
 returns c =
     let start = c .before .before .before .before in
-    turned-last columnsOf _ _ _ _ (c .before .quiet-part .ensures) (start .pre .1) (c .if1 .taken)
+    advanced-last columnsOf _ _ _ _ (c .before .quiet-part .ensures) (start .pre .1) (c .if1 .taken)
 
 cast-run-clock : tie.Need-cast-run-clock
 cast-run-clock c = let going = c .before .quiet-part .ensures .going in omega (arith, going .within, going .short)
@@ -29,7 +28,7 @@ run-clock-requires c κs =
     let going = quiet .ensures .going in
     let start = c .before .before .before .before .before .before in
     let here : quiet .result .next < length (start .args .block .now) = omega (arith, going .within, c .before .before .if1 .left) in
-    (going .well-formed, byte-below _ (going .bits) (quiet .result .next) here, omega (arith, going .few, start .pre .2))
+    (going .well-formed, omega (arith, going .few, start .pre .2))
 
 add-t7 : tie.Need-add-t7
 add-t7 c = search needs
@@ -42,10 +41,10 @@ returns-2 c =
     let quiet = c .before .before .before .before .before .before .quiet-part in
     let start = c .before .before .before .before .before .before .before .before .before in
     let here : quiet .result .next < length (start .args .block .now) = omega (arith, quiet .ensures .going .within, c .before .before .before .before .before .if1 .left) in
-    turned-clock columnsOf _ _ _ _ (quiet .ensures) here _ _ (c .before .before .run-clock .ensures)
+    advanced-clock columnsOf _ _ _ _ (quiet .ensures) here _ _ (c .before .before .run-clock .ensures)
 
-pub run-turn-spec : {M : Type 1} → statement M
-run-turn-spec =
+pub advance-spec : {M : Type 1} → statement M
+advance-spec =
     tie.close
     (tie.spec
     quiet-part-requires
