@@ -150,7 +150,7 @@ module _ (columns : Kind → List ℕ) where
   module _ (r : Receiver) (block buffer : List ℕ) where
     accepted : Accepts r block buffer → runBlock columns r block buffer ≡ acceptedBlock columns r block buffer
     unfolding runBlock
-    accepted b = rw (b .well-formed, le-ltb blockClocks (length block) (b .few), le-ltb (length buffer) (recordNumbers * length block) (b .room), in-range block (b .in-range)) refl
+    accepted b = rw (b .well-formed, le-ltb blockClocks (length block) (b .short), le-ltb (length buffer) (recordNumbers * length block) (b .room), in-range block (b .in-range)) refl
 
     refused-by-2 : wellFormed r ≡ false → runBlock columns r block buffer ≡ refusedBlock 2 r buffer
     unfolding runBlock
@@ -183,7 +183,7 @@ module _ (columns : Kind → List ℕ) where
         (λ bits z.
         record {
           well-formed = w;
-          few = ltb-false blockClocks (length block) few;
+          short = ltb-false blockClocks (length block) few;
           room = ltb-false (length buffer) (recordNumbers * length block) room;
           in-range = λ place here. let small : getD block place 0 < 4 = byte-below block bits place here in omega arith;
         })
@@ -237,7 +237,7 @@ module _ (columns : Kind → List ℕ) where
     is-first : Accepts r first buffer₁
     is-first = record {
       well-formed = b .well-formed;
-      few = omega (arith, b .few, length-append first second);
+      short = omega (arith, b .short, length-append first second);
       room = room₁;
       in-range = λ place here.
           subst (λ (n : ℕ). n ≤ 3) (List·getD-append first second 0 place here)
@@ -247,7 +247,7 @@ module _ (columns : Kind → List ℕ) where
     is-second : Accepts (stateAfter columns r first) second buffer₂
     is-second = record {
       well-formed = w;
-      few = omega (arith, b .few, length-append first second);
+      short = omega (arith, b .short, length-append first second);
       room = room₂;
       in-range = λ place here.
           subst (λ (n : ℕ). n ≤ 3) (getD-append-add first second place 0)

@@ -63,7 +63,7 @@ singleRecords columns r block = below (recordAt columns r block) (length block)
 -- what is not refused: the state is well formed, the block has at most 4,096 bytes, there are five numbers of room for each, and no byte is over 3
 pub record Accepts (r : Receiver) (block buffer : List ℕ) : Type 0 where
   pub well-formed : wellFormed r ≡ true
-  pub few : length block ≤ 4096
+  pub short : length block ≤ 4096
   pub room : 5 * length block ≤ length buffer
   pub in-range : (place : ℕ) → place < length block → getD block place 0 ≤ 3
 

@@ -18,7 +18,7 @@ use Rattle.receiver.specs.TakeBit.{takeBit}
 use Rattle.receiver.specs.IdleClock.{countClock, busStep, idleClock}
 use Rattle.receiver.specs.Clock.{clockedAnswer, stepAnswer}
 use Rattle.receiver.specs.Block.{triggerBit, channelBit}
-use Rattle.receiver.specs.Run.{runDone, leaves, answeredRun, clocksRun, ProgressFacts, rest, quietRun, Quiet, Advanced}
+use Rattle.receiver.specs.Run.{runDone, leaves, answeredRun, clocksRun, ProgressFacts, rest, quietRun, quietProgress, Quiet, Advanced}
 use Rattle.receiver.proofs.Unchecked.{unfinished-step}
 use Rattle.receiver.proofs.Run.{nothing-recorded, without-record, clock-turn, turn-facts, turn-records}
 
@@ -110,19 +110,15 @@ module _ (columns : Kind → List ℕ) (progress : Progress) (block : List ℕ) 
               ∙ q .same buffer;
         }
 
-  pub quiet-last : (held : Held) (at : ℕ) (run : Running) → ProgressFacts progress block → QuietTo held at → run ≡ soFar held at → Quiet columns block progress (record { run = run; next = at })
-  quiet-last held at run g q e =
-      record {
-        same = λ buffer. ap (λ (x : Running). clocksRun columns at x (drop at block) buffer) e ∙ q .same buffer;
-        going =
-            record {
-              well-formed = subst (λ (x : Running). ReceiverFacts (x .receiver)) (sym e) (q .facts);
-              within = q .high;
-              few = subst (λ (x : Running). x .records ≤ at) (sym e) (omega (arith, g .few, q .low));
-              short = g .short;
-            };
+  pub quiet-last : (held : Held) (at : ℕ) → ProgressFacts progress block → QuietTo held at → (after : Progress) → after ≡ quietProgress at held progress
+      → Quiet columns block progress after
+  quiet-last held at g q after e =
+      subst (Quiet columns block progress) (sym e)
+      (record {
+        same = q .same;
+        going = record { well-formed = q .facts; within = q .high; few = omega (arith, g .few, q .low); short = g .short };
         onward = q .low;
-      }
+      })
 
 -- ---- quiet clocks, and the clock behind them
 

@@ -1,5 +1,5 @@
 -- For document 02, Q-3: a block in the course of its clocks: the receiver, the records so far, and the buffer. Only private contracts cite it.
-use Prim.Native.Nat.{ℕ, suc, _+_, _*_, _%_, _≤_, _<_}
+use Prim.Native.Nat.{ℕ, suc, _+_, _-_, _*_, _%_, _≤_, _<_}
 use mathlib.Core.Path.{_≡_}
 use mathlib.Core.Bool.{cond}
 use mathlib.Core.List.{List, [], _∷_}
@@ -70,6 +70,10 @@ quietRun clocks held run =
       receiver = receiver (withCounters (counters ((core .counters .bunch + clocks) % 4096) (core .counters .event)) core) held;
       records = run .records;
     }
+
+-- those from the next one up to a place
+abbrev pub quietProgress : ℕ → Held → Progress → Progress
+quietProgress place held progress = record { run = quietRun (place - progress .next) held (progress .run); next = place }
 
 -- some clocks were done, or none, and wrote no record
 pub record Quiet (columns : Kind → List ℕ) (block : List ℕ) (before after : Progress) : Type 0 where

@@ -15,7 +15,7 @@ ghost use Rattle.fate.specs.Fate.{columnsOf, finishedAnswer, finished};
 ghost use Rattle.receiver.specs.IdleClock.{idleClock};
 ghost use Rattle.receiver.specs.Clock.{clockedAnswer, stepAnswer};
 ghost use Rattle.receiver.specs.Block.{triggerBit, channelBit, blockDone, blockAnswer, blockClocks, noByteOver3, runBlock};
-ghost use Rattle.receiver.specs.Run.{leaves, withRecord, answeredRun, clocksRun, atStart, ProgressFacts, quietRun, Quiet, Advanced};
+ghost use Rattle.receiver.specs.Run.{leaves, withRecord, answeredRun, clocksRun, atStart, ProgressFacts, quietProgress, Quiet, Advanced};
 use crate::BlockAnswer;
 use crate::Progress;
 use crate::Running;
@@ -137,21 +137,22 @@ fn run_clock(run: Running, place: u32, byte: u8, buffer: &mut [u32]) -> Running
     }
 }
 
-// What clocks without a trigger leave, if no sequence was running and no frame finished: only the
-// bunch counter and the bits held have moved.
-fn after_quiet(run: Running, clocks: usize, held: Held) -> Running
-    requires { ⌜ (CountersFacts (run .receiver .core .counters)) × (clocks ≤ blockClocks) ⌝ }
-    ensures { λ r. ⌜ r ≡ quietRun clocks held run ⌝ }
+// Where clocks without a trigger lead, up to a place, if no sequence was running and no frame
+// finished: only the bunch counter and the bits held have moved.
+fn after_quiet(progress: Progress, place: usize, held: Held) -> Progress
+    requires { ⌜ (CountersFacts (progress .run .receiver .core .counters)) × (progress .next ≤ place) × (place ≤ blockClocks) ⌝ }
+    ensures { λ r. ⌜ r ≡ quietProgress place held progress ⌝ }
 {
-    let mut counters = run.receiver.core.counters;
-    counters.bunch = ((run.receiver.core.counters.bunch as usize + clocks) % 0x1000) as u16;
-    let mut core = run.receiver.core;
+    let mut core = progress.run.receiver.core;
+    let mut counters = core.counters;
+    counters.bunch = ((core.counters.bunch as usize + (place - progress.next)) % 0x1000) as u16;
     core.counters = counters;
     let receiver = Receiver { core, held };
-    Running {
+    let run = Running {
         receiver,
-        records: run.records,
-    }
+        records: progress.run.records,
+    };
+    Progress { run, next: place }
 }
 
 // The clocks up to the next trigger or finished frame, where no sequence is running. They have no
@@ -165,19 +166,16 @@ fn run_quiet(progress: Progress, block: &[u8]) -> Progress
     while at < block.len() {
         let byte = block[at];
         if byte % 2 == 1 {
-            let run = after_quiet(progress.run, at - progress.next, held);
-            return Progress { run, next: at };
+            return after_quiet(progress, at, held);
         }
         let taken = take_bit(held, byte / 2 % 2);
         let Taken::Unfinished(longer) = taken else {
-            let run = after_quiet(progress.run, at - progress.next, held);
-            return Progress { run, next: at };
+            return after_quiet(progress, at, held);
         };
         held = longer;
         at += 1;
     }
-    let run = after_quiet(progress.run, at - progress.next, held);
-    Progress { run, next: at }
+    after_quiet(progress, at, held)
 }
 
 // The quiet clocks that come next, if any. A trigger is tested first: where triggers are frequent

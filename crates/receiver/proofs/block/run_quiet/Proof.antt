@@ -24,16 +24,14 @@ loop-holds c = quiet-first columnsOf _ _ (c .before .before .pre .0)
 shared-slice-read-byte : tie.Need-shared-slice-read-byte Inv-loop μ-loop
 shared-slice-read-byte c = search needs
 
-sub-after-quiet : tie.Need-sub-after-quiet Inv-loop μ-loop
-sub-after-quiet c = omega (arith, c .before .before .before .before .loop .inv .low)
-
 after-quiet-requires : tie.Need-after-quiet-requires Inv-loop μ-loop
 after-quiet-requires c κs =
-    let going = c .before .before .before .before .before .before .before .pre .0 in
-    (going .well-formed .of-core .of-counters, omega (arith, c .before .before .before .before .loop .inv .high, going .short))
+    let going = c .before .before .before .before .before .before .pre .0 in
+    let at = c .before .before .before .loop .inv in
+    (going .well-formed .of-core .of-counters, at .low, omega (arith, at .high, going .short))
 
 returns : tie.Need-returns Inv-loop μ-loop
-returns c = let at = c .before .before .before .before .before .loop in quiet-last columnsOf _ _ (at .held) (at .at) _ (c .before .before .before .before .before .before .before .before .pre .0) (at .inv) (c .after-quiet .ensures)
+returns c = let at = c .before .before .before .before .loop in quiet-last columnsOf _ _ (at .held) (at .at) (c .before .before .before .before .before .before .before .pre .0) (at .inv) _ (c .after-quiet .ensures)
 
 take-bit-requires : tie.Need-take-bit-requires Inv-loop μ-loop
 take-bit-requires c κs = (c .before .before .before .loop .inv .facts .of-held, mod-lt _ (lit< tt))
@@ -44,16 +42,14 @@ enum-known-taken c = search needs
 enum-told : tie.Need-enum-told Inv-loop μ-loop
 enum-told c = search needs
 
-sub-after-quiet-2 : tie.Need-sub-after-quiet-2 Inv-loop μ-loop
-sub-after-quiet-2 c = omega (arith, c .before .before .before .before .before .before .before .loop .inv .low)
-
 after-quiet-requires-2 : tie.Need-after-quiet-requires-2 Inv-loop μ-loop
 after-quiet-requires-2 c κs =
-    let going = c .before .before .before .before .before .before .before .before .before .before .pre .0 in
-    (going .well-formed .of-core .of-counters, omega (arith, c .before .before .before .before .before .before .before .loop .inv .high, going .short))
+    let going = c .before .before .before .before .before .before .before .before .before .pre .0 in
+    let at = c .before .before .before .before .before .before .loop .inv in
+    (going .well-formed .of-core .of-counters, at .low, omega (arith, at .high, going .short))
 
 returns-2 : tie.Need-returns-2 Inv-loop μ-loop
-returns-2 c = let at = c .before .before .before .before .before .before .before .before .loop in quiet-last columnsOf _ _ (at .held) (at .at) _ (c .before .before .before .before .before .before .before .before .before .before .before .pre .0) (at .inv) (c .after-quiet2 .ensures)
+returns-2 c = let at = c .before .before .before .before .before .before .before .loop in quiet-last columnsOf _ _ (at .held) (at .at) (c .before .before .before .before .before .before .before .before .before .before .pre .0) (at .inv) _ (c .after-quiet2 .ensures)
 
 add-at : tie.Need-add-at Inv-loop μ-loop
 add-at c = search needs
@@ -72,16 +68,14 @@ loop-again c =
     (omega (arith, no))
     (sym (bit .take-bit .ensures) ∙ c .before .taken .given .1)
 
-sub-after-quiet-3 : tie.Need-sub-after-quiet-3 Inv-loop μ-loop
-sub-after-quiet-3 c = omega (arith, c .before .before .loop .inv .low)
-
 after-quiet-requires-3 : tie.Need-after-quiet-requires-3 Inv-loop μ-loop
 after-quiet-requires-3 c κs =
-    let going = c .before .before .before .before .before .pre .0 in
-    (going .well-formed .of-core .of-counters, omega (arith, c .before .before .loop .inv .high, going .short))
+    let going = c .before .before .before .before .pre .0 in
+    let at = c .before .loop .inv in
+    (going .well-formed .of-core .of-counters, at .low, omega (arith, at .high, going .short))
 
 returns-3 : tie.Need-returns-3 Inv-loop μ-loop
-returns-3 c = let at = c .before .before .before .loop in quiet-last columnsOf _ _ (at .held) (at .at) _ (c .before .before .before .before .before .before .pre .0) (at .inv) (c .after-quiet3 .ensures)
+returns-3 c = let at = c .before .before .loop in quiet-last columnsOf _ _ (at .held) (at .at) (c .before .before .before .before .before .pre .0) (at .inv) _ (c .after-quiet3 .ensures)
 
 pub run-quiet-spec : {M : Type 1} → statement M
 run-quiet-spec =
@@ -91,18 +85,15 @@ run-quiet-spec =
     μ-loop
     loop-holds
     shared-slice-read-byte
-    sub-after-quiet
     after-quiet-requires
     returns
     take-bit-requires
     enum-known-taken
     enum-told
-    sub-after-quiet-2
     after-quiet-requires-2
     returns-2
     add-at
     loop-less
     loop-again
-    sub-after-quiet-3
     after-quiet-requires-3
     returns-3)
