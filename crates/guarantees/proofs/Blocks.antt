@@ -150,7 +150,7 @@ module _ (columns : Kind → List ℕ) where
   module _ (r : Receiver) (block buffer : List ℕ) where
     accepted : Accepts r block buffer → runBlock columns r block buffer ≡ acceptedBlock columns r block buffer
     unfolding runBlock
-    accepted b = rw (b .well-formed, le-ltb blockClocks (length block) (b .short), le-ltb (length buffer) (recordNumbers * length block) (b .room), in-range block (b .in-range)) refl
+    accepted b = rw (b .well-formed, le-ltb blockClocks (length block) (b .short), le-ltb (length buffer) (recordNumbers * length block) (b .room), in-range block (λ place here. omega (arith, b .in-range place here))) refl
 
     refused-by-2 : wellFormed r ≡ false → runBlock columns r block buffer ≡ refusedBlock 2 r buffer
     unfolding runBlock
@@ -344,8 +344,8 @@ block-theorem columns good =
         λ b. ap (λ (d : BlockDone). d .answer .refusal) (accepted columns r block buffer b),
       );
       refused-by-2 = refused-by-2 columns;
-      refused-by-15 = refused-by-15 columns;
-      refused-by-16 = refused-by-16 columns;
+      refused-by-15 = λ r block buffer w long. refused-by-15 columns r block buffer w (omega arith);
+      refused-by-16 = λ r block buffer w short small. refused-by-16 columns r block buffer w (omega arith) (omega arith);
       refused-by-1 = refused-by-1 columns;
       equals-singly = equals-singly columns;
       none-refused = none-refused columns laws;
