@@ -1,3 +1,4 @@
 pub mod Digits
 pub mod ReadWritten
 pub mod Refusals
+pub mod Laws

@@ -38,7 +38,7 @@ digits-snoc (d ∷ cs) c e h =
     let both-are = both (isDigit d) (allDigits cs) e in
     rw (both-are .0) (digits-snoc cs c (both-are .1) h)
 
-number-snoc : (cs : List ℕ) (c : ℕ) → hexNumber (cs ++ (c ∷ [])) ≡ hexNumber cs * 16 + digitValue c
+pub number-snoc : (cs : List ℕ) (c : ℕ) → hexNumber (cs ++ (c ∷ [])) ≡ hexNumber cs * 16 + digitValue c
 unfolding hexNumber
 number-snoc [] c = omega arith
 number-snoc (d ∷ cs) c =
