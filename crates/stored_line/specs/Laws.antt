@@ -27,12 +27,14 @@ Capital character = Between 48 character 57 ⊎ Between 65 character 70
 abbrev pub Digit : ℕ → Type 0
 Digit character = Capital character ⊎ Between 97 character 102
 
+-- it holds of each character
 abbrev pub Each : (ℕ → Type 0) → List ℕ → Type 0
 Each P [] = Unit {0}
 Each P (character ∷ characters) = P character × Each P characters
 
 -- what a digit is worth, and what digits one behind the other are worth
 pub record DigitLaws : Type 0 where
+  -- 0-9 are worth 0 to 9, and A-F 10 to 15
   pub figures : (value : ℕ) → value ≤ 9 → digitValue (48 + value) ≡ value
   pub capitals : (value : ℕ) → value ≤ 5 → digitValue (65 + value) ≡ 10 + value
   -- a-f are worth what A-F are
