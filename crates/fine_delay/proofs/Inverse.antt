@@ -31,11 +31,11 @@ setting-below byte = omega arith
 
 -- ---- the answers
 
-byte-answer : (k : ℕ) → k < 240 → settingToByte k ≡ record { refusal = 0; byte = byteOf k }
+pub byte-answer : (k : ℕ) → k < 240 → settingToByte k ≡ record { refusal = 0; byte = byteOf k }
 unfolding settingToByte
 byte-answer k h = rw (le-ltb 239 k (le-of-suc-le-suc h))
 
-setting-answer : (byte : ℕ) → byte < 240 → byteToSetting byte ≡ record { refusal = 0; setting = settingOf byte }
+pub setting-answer : (byte : ℕ) → byte < 240 → byteToSetting byte ≡ record { refusal = 0; setting = settingOf byte }
 unfolding byteToSetting
 setting-answer byte h = rw (le-ltb 239 byte (le-of-suc-le-suc h))
 

@@ -1,3 +1,4 @@
 pub mod Delay
 pub mod Table
 pub mod Inverse
+pub mod Laws
