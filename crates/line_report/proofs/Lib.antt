@@ -7,3 +7,4 @@ pub mod Work
 pub mod Turn
 pub mod Cuts
 pub mod Longest
+pub mod Example

@@ -4,3 +4,4 @@ pub mod Output
 pub mod Report
 pub mod Turn
 pub mod Cuts
+pub mod Example
