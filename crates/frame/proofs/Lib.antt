@@ -1,3 +1,5 @@
 pub mod Numbers
+pub mod Columns
+pub mod Bits
 pub mod Words
 pub mod Frames

@@ -46,6 +46,10 @@ answerTo kind Uncorrectable = bareAnswer 0 8 0
 answerTo kind (FixedZero word) = bareAnswer 0 9 word
 answerTo kind (Good word flag wrong) = goodAnswer kind (cond flag 1 0) word
 
+-- a frame whose start and format were tested before, over the columns of each kind
+unfoldable pub finishedAnswer : (Kind → List ℕ) → Kind → ℕ → Answer
+finishedAnswer columns kind number = answerTo kind (judged (columns kind) kind number)
+
 -- refusal 12, "start, format or leading bits wrong for the length", is tested "first"
 unfoldable pub decodeFrame : List ℕ → Kind → ℕ → Answer
 decodeFrame columns kind number = cond (isFrame kind number) (answerTo kind (judged columns kind number)) (bareAnswer 12 0 0)

@@ -6,9 +6,10 @@ ghost use mathlib.Core.Path.{_≡_};
 ghost use mathlib.Core.Bool.{cond};
 ghost use Rattle.hamming.specs.Code.{inUse};
 ghost use Rattle.hamming.specs.Columns.{shortColumns, longColumns};
-ghost use Rattle.frame.specs.Numbers.{isFrame, wordBits, checkBitsOf};
+ghost use Rattle.frame.specs.Numbers.{frameBits, isFrame, wordBits, checkBitsOf};
+ghost use Rattle.frame.specs.Columns.{columnsFor};
 ghost use Rattle.frame.specs.Encode.{fieldsOf, encodeWord, encodeShort, encodeLong};
-ghost use Rattle.frame.specs.Decode.{fixedZero, judged, bareAnswer, answerTo, decodeFrame};
+ghost use Rattle.frame.specs.Decode.{fixedZero, judged, bareAnswer, answerTo, finishedAnswer, decodeFrame};
 ghost use Rattle.frame.specs.declared.Kind.the-variants.{Short, Long};
 use hamming::Decoded;
 use hamming::WrongBit;
@@ -60,6 +61,16 @@ pub struct Answer {
     pub corrected: u8,
     pub word: u32,
     pub fields: Fields,
+}
+
+// How many bits such a frame has.
+pub fn frame_bits(kind: Kind) -> u8
+    ensures { λ r. ⌜ r ≡ frameBits kind ⌝ }
+{
+    match kind {
+        Kind::Short => 16,
+        Kind::Long => 42,
+    }
 }
 
 // Whether the start, format and leading bits of a number are those of such a frame.
@@ -245,6 +256,17 @@ pub fn answer_to(kind: Kind, judged: Judged) -> Answer
             word,
             fields: fields_of(kind, word),
         },
+    }
+}
+
+// What a finished frame says, over the columns of each kind. Start and format were tested before, bit
+// by bit or at once, so nothing is refused here.
+pub fn decode_finished(short: &[u8], long: &[u8], kind: Kind, number: u64) -> Answer
+    ensures { λ r. ⌜ r ≡ finishedAnswer (columnsFor (inUse (now (short .entry))) (inUse (now (long .entry)))) kind number ⌝ }
+{
+    match kind {
+        Kind::Short => answer_to(kind, judge(short, kind, number)),
+        Kind::Long => answer_to(kind, judge(long, kind, number)),
     }
 }
 

@@ -6,6 +6,7 @@ ghost use mathlib.Core.Path.{_≡_};
 ghost use Prim.Native.Nat.{_<_, _^_};
 ghost use lib.Bits.{bitXor};
 ghost use Rattle.hamming.specs.Columns.{columnTable};
+ghost use Rattle.hamming.specs.Code as code;
 ghost use Rattle.hamming.specs.Code.{inUse, checkNumber, firstEqual, bySyndrome, decodeWord};
 
 // What the search for a column yields: the bit whose column it is, or none.
@@ -103,6 +104,13 @@ pub fn check_number(columns: &[u8], data: u32) -> u8
     check
 }
 
+// The received check number against that of the received data.
+pub fn syndrome(columns: &[u8], data: u32, check: u8) -> u8
+    ensures { λ r. ⌜ r ≡ code.syndrome (inUse (now (columns .entry))) «data» check ⌝ }
+{
+    check ^ check_number(columns, data)
+}
+
 // The bit of the first column in use that equals the syndrome, or none.
 pub fn find_column(columns: &[u8], syndrome: u8) -> Found
     ensures { λ r. ⌜ r ≡ firstEqual (inUse (now (columns .entry))) syndrome ⌝ }
@@ -129,7 +137,7 @@ fn flip_bit(data: u32, at: usize) -> u32
 }
 
 // What the syndrome says of the received data, in document 01's order.
-fn by_syndrome(columns: &[u8], data: u32, syndrome: u8) -> Decoded
+pub fn by_syndrome(columns: &[u8], data: u32, syndrome: u8) -> Decoded
     ensures { λ r. ⌜ r ≡ bySyndrome (inUse (now (columns .entry))) «data» syndrome ⌝ }
 {
     if syndrome == 0 {
@@ -161,5 +169,5 @@ fn by_syndrome(columns: &[u8], data: u32, syndrome: u8) -> Decoded
 pub fn decode_word(columns: &[u8], data: u32, check: u8) -> Decoded
     ensures { λ r. ⌜ r ≡ decodeWord (inUse (now (columns .entry))) «data» check ⌝ }
 {
-    by_syndrome(columns, data, check ^ check_number(columns, data))
+    by_syndrome(columns, data, syndrome(columns, data, check))
 }
