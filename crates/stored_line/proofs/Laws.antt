@@ -17,7 +17,7 @@ use Rattle.frame.specs.Numbers.{isFrame}
 use Rattle.stored_line.specs.declared.StoredLine.the-variants.{Frame, Refused}
 use Rattle.stored_line.specs.Digits.{between, digitValue, isDigit, allDigits, hexNumber, hexAnswer, digitCharacter, hexDigits}
 use Rattle.stored_line.specs.Read.{readLine}
-use Rattle.stored_line.specs.Write.{written, writeLine}
+use Rattle.stored_line.specs.Write.{writeDone, writeLine}
 use Rattle.stored_line.specs.Laws.{Between, Capital, Digit, Each, DigitLaws, NumberLaws, HasLength, ReadLaws, TooSmall, WriteLaws}
 use Rattle.stored_line.proofs.ReadWritten.{number-snoc}
 
@@ -150,7 +150,7 @@ read-laws =
 -- ---- the writer
 
 refused-by-14 : (kind : Kind) (number : ℕ) (buffer : List ℕ) → isFrame kind number ≡ true → TooSmall kind buffer
-    → writeLine kind number buffer ≡ written (record { refusal = 14; length = 0 }) buffer
+    → writeLine kind number buffer ≡ writeDone (record { refusal = 14; size = 0 }) buffer
 unfolding writeLine
 refused-by-14 Short number buffer e small = rw (e, lt-ltb (length buffer) 5 small)
 refused-by-14 Long number buffer e small = rw (e, lt-ltb (length buffer) 12 small)

@@ -98,7 +98,7 @@ front-written kind number buffer e h =
     (take-at (lineOf kind number) _ (lineLength kind) (rw (length-append, length-digits) (add-one (digitCount kind))))
 
 answer-written : (kind : Kind) (number : ℕ) (buffer : List ℕ) → isFrame kind number ≡ true → lineLength kind ≤ length buffer
-    → writeLine kind number buffer .answer ≡ record { refusal = 0; length = lineLength kind }
+    → writeLine kind number buffer .answer ≡ record { refusal = 0; size = lineLength kind }
 unfolding writeLine
 answer-written kind number buffer e h = rw (e, le-ltb (length buffer) (lineLength kind) h)
 

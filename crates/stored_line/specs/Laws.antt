@@ -12,7 +12,7 @@ use Rattle.frame.specs.Numbers.{isFrame}
 use Rattle.stored_line.specs.declared.StoredLine.the-variants.{Frame, Refused}
 use Rattle.stored_line.specs.Digits.{digitValue, hexNumber, hexDigits}
 use Rattle.stored_line.specs.Read.{readLine, lineAnswer}
-use Rattle.stored_line.specs.Write.{written, writeLine}
+use Rattle.stored_line.specs.Write.{writeDone, writeLine}
 
 -- ---- digits
 
@@ -86,14 +86,14 @@ TooSmall Long buffer = length buffer < 12
 pub record WriteLaws : Type 0 where
   -- 12 before 14; either writes "no lent byte", and answers that none was written
   pub refused-by-12 : (kind : Kind) (number : ℕ) (buffer : List ℕ) → isFrame kind number ≡ false
-      → writeLine kind number buffer ≡ written (record { refusal = 12; length = 0 }) buffer
+      → writeLine kind number buffer ≡ writeDone (record { refusal = 12; size = 0 }) buffer
   -- 14, "after 12"
   pub refused-by-14 : (kind : Kind) (number : ℕ) (buffer : List ℕ) → isFrame kind number ≡ true → TooSmall kind buffer
-      → writeLine kind number buffer ≡ written (record { refusal = 14; length = 0 }) buffer
+      → writeLine kind number buffer ≡ writeDone (record { refusal = 14; size = 0 }) buffer
   -- "4 digits or 11 digits, then a line feed"; "its bytes beyond stay"
   pub short-written : (number : ℕ) (buffer : List ℕ) → isFrame Short number ≡ true → (TooSmall Short buffer → ⊥)
-      → writeLine Short number buffer ≡ written (record { refusal = 0; length = 5 }) ((hexDigits 4 number ++ (10 ∷ [])) ++ drop 5 buffer)
+      → writeLine Short number buffer ≡ writeDone (record { refusal = 0; size = 5 }) ((hexDigits 4 number ++ (10 ∷ [])) ++ drop 5 buffer)
   pub long-written : (number : ℕ) (buffer : List ℕ) → isFrame Long number ≡ true → (TooSmall Long buffer → ⊥)
-      → writeLine Long number buffer ≡ written (record { refusal = 0; length = 12 }) ((hexDigits 11 number ++ (10 ∷ [])) ++ drop 12 buffer)
+      → writeLine Long number buffer ≡ writeDone (record { refusal = 0; size = 12 }) ((hexDigits 11 number ++ (10 ∷ [])) ++ drop 12 buffer)
   -- "A written line has capitals"
   pub capitals : (digits number : ℕ) → Each Capital (hexDigits digits number)

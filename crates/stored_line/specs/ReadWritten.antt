@@ -15,6 +15,6 @@ use Rattle.stored_line.specs.Write.{writeLine, lineLength}
 abbrev pub ReadWritten : Type 0
 ReadWritten =
     (kind : Kind) (number : ℕ) (buffer : List ℕ) → isFrame kind number ≡ true → lineLength kind ≤ length buffer
-    → (writeLine kind number buffer .answer ≡ record { refusal = 0; length = lineLength kind })
+    → (writeLine kind number buffer .answer ≡ record { refusal = 0; size = lineLength kind })
     × (readLine (take (digitCount kind) (writeLine kind number buffer .buffer)) ≡ Frame kind number)
     × (getD (writeLine kind number buffer .buffer) (digitCount kind) 0 ≡ 10)

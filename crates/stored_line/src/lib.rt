@@ -10,7 +10,7 @@ ghost use lib.ListN.{length, drop};
 ghost use Rattle.stored_line.specs.declared.StoredLine.the-variants.{Frame};
 ghost use Rattle.stored_line.specs.Digits.{between, digitValue, digitCharacter, hexDigits, hexAnswer, hexWritten};
 ghost use Rattle.stored_line.specs.Read.{digitCount, readAs, readLine, lineAnswer};
-ghost use Rattle.stored_line.specs.Write.{written, writeLine};
+ghost use Rattle.stored_line.specs.Write.{writeDone, writeLine};
 use frame::Kind;
 use frame::is_frame;
 
@@ -32,7 +32,7 @@ pub struct LineAnswer {
 #[repr(C)]
 pub struct Written {
     pub refusal: u8,
-    pub length: u8,
+    pub size: u8,
 }
 
 // What characters spell in hexadecimal, unless one of them is no digit.
@@ -188,25 +188,25 @@ pub fn write_hex(digits: usize, number: u64, buffer: &mut [u8])
 
 // Writes the line of a frame, with its line feed, to the front of the buffer.
 pub fn write_line(kind: Kind, number: u64, buffer: &mut [u8]) -> Written
-    ensures { λ r. ⌜ written r (now (buffer .exit)) ≡ writeLine kind number (now (buffer .entry)) ⌝ }
+    ensures { λ r. ⌜ writeDone r (now (buffer .exit)) ≡ writeLine kind number (now (buffer .entry)) ⌝ }
 {
     if !is_frame(kind, number) {
         return Written {
             refusal: 12,
-            length: 0,
+            size: 0,
         };
     }
     let digits = digit_count(kind);
     if buffer.len() <= digits {
         return Written {
             refusal: 14,
-            length: 0,
+            size: 0,
         };
     }
     buffer[digits] = b'\n';
     write_digits(digits, number, buffer);
     Written {
         refusal: 0,
-        length: (digits + 1) as u8,
+        size: (digits + 1) as u8,
     }
 }

@@ -16,7 +16,7 @@ use Rattle.frame.specs.Numbers.{isFrame}
 use Rattle.laws.proofs.Rules.{denied, granted}
 use Rattle.stored_line.specs.Digits.{hexDigits}
 use Rattle.stored_line.specs.Read.{digitCount}
-use Rattle.stored_line.specs.Write.{written, refusedWrite, lineLength, writeLine}
+use Rattle.stored_line.specs.Write.{writeDone, refusedLine, lineLength, writeLine}
 use Rattle.stored_line.proofs.Digits.{stored-behind, length-digits}
 use Rattle.stored_line.proofs.write_line.Statement.{statement}
 use Rattle.stored_line.proofs.write_line.Tie as tie
@@ -24,16 +24,16 @@ use Rattle.stored_line.proofs.write_line.Tie as tie
 -- ---- the definition at a number d of digits that is that of the kind
 
 too-small : (kind : Kind) (number : ℕ) (buffer : List ℕ) (d : ℕ) → d ≡ digitCount kind → isFrame kind number ≡ true → length buffer ≤ d
-    → refusedWrite 14 buffer ≡ writeLine kind number buffer
+    → refusedLine 14 buffer ≡ writeLine kind number buffer
 unfolding writeLine
 too-small kind number buffer d e f h = rw (f, lt-ltb (length buffer) (lineLength kind) (omega arith))
 
 large-enough : (kind : Kind) (number : ℕ) (buffer : List ℕ) (d : ℕ) → d ≡ digitCount kind → isFrame kind number ≡ true → d < length buffer
-    → written (record { refusal = 0; length = suc d }) (hexDigits d number ++ drop d (set buffer d 10)) ≡ writeLine kind number buffer
+    → writeDone (record { refusal = 0; size = suc d }) (hexDigits d number ++ drop d (set buffer d 10)) ≡ writeLine kind number buffer
 unfolding writeLine
 large-enough kind number buffer d e f h =
     rw (f, le-ltb (length buffer) (lineLength kind) (omega arith), e)
-    (ap (written _) (stored-behind buffer (hexDigits (digitCount kind) number) (digitCount kind) 10 (omega arith)))
+    (ap (writeDone _) (stored-behind buffer (hexDigits (digitCount kind) number) (digitCount kind) 10 (omega arith)))
 
 count-small : (kind : Kind) → digitCount kind ≤ 11
 count-small Short = omega arith
@@ -78,7 +78,7 @@ same-length c =
 returns-3 : tie.Need-returns-3
 returns-3 c =
     let digits = c .before .before .before .before .before .digit-count in
-    ap₂ (λ (n : ℕ) (b : List ℕ). written (record { refusal = 0; length = n }) b) (add-one (digits .result)) (c .before .before .write-digits .ensures)
+    ap₂ (λ (n : ℕ) (b : List ℕ). writeDone (record { refusal = 0; size = n }) b) (add-one (digits .result)) (c .before .before .write-digits .ensures)
     ∙ large-enough _ _ _ _ (digits .ensures)
     (granted _ _ (c .before .before .before .before .before .before .before .is-frame .ensures) (c .before .before .before .before .before .before .if1 .left))
     (c .before .before .before .before .if2 .left)
