@@ -1,10 +1,10 @@
 // Document 02, Q-3: blocks on a receiver that is kept from one to the next, the part of the buffer
 // that they filled, and every refusal.
 // Numbers of the buffer that no block has written are 7.
-use receiver::block::run_block;
 use receiver_state::Receiver;
 use receiver_state::fresh;
-use trace_records::filled;
+use trace::filled_part;
+use trace::run_block;
 
 // Document 01's encoding of broadcast 03, 00D9, a bit a clock, with a trigger on the last.
 const BROADCAST_3: [u8; 16] = [0, 0, 0, 0, 0, 0, 0, 0, 2, 2, 0, 2, 2, 0, 0, 3];
@@ -29,7 +29,7 @@ fn print_numbers(numbers: &[u32]) {
 
 // What the second call hands back.
 fn print_filled(buffer: &[u32], records: usize) {
-    let part = filled(buffer, records);
+    let part = filled_part(buffer, records);
     print_number(b"filled part for ", records as u64);
     print_number(b": ", part.len() as u64);
     io::write_all(1, b" numbers:");

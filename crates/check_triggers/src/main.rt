@@ -2,11 +2,11 @@
 // sequence on the bus.
 // It prints the number of each clock, then what the clock shows; of a frame's clocks only those that
 // show something.
-use fate::Outputs;
 use frame::encode_long;
 use frame::encode_short;
 use receiver::clock;
 use receiver_state::Counters;
+use receiver_state::Outputs;
 use receiver_state::Receiver;
 use receiver_state::fresh;
 

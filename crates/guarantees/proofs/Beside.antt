@@ -13,8 +13,9 @@ use Rattle.receiver_state.specs.declared.Held.{Held}
 use Rattle.receiver_state.specs.declared.Receiver.{Receiver}
 use Rattle.receiver_state.specs.State.{receiver, nothingHeld}
 use Rattle.receiver_state.specs.WellFormed.{wellFormed}
-use Rattle.receiver.specs.IdleClock.{idleClock}
-use Rattle.receiver.specs.Clock.{noOutputs}
+use Rattle.idle_clock.specs.IdleClock.{idleClock}
+use Rattle.receiver_state.specs.Shown.{noOutputs}
+use Rattle.channel_b.proofs.Bits.{bit-law}
 use Rattle.receiver.specs.Laws.{ClockLaws}
 use Rattle.guarantees.specs.Calls.{Call, clock, read, write, CallAnswer, CallResult, result, call, run, answers, refusalOf, carried, channelB, idleCall, idle}
 use Rattle.guarantees.proofs.OneCall.{accepted-bits, bits-accepted, holding-none, reads, writes, refused-clock, unfinished-clock, keeps}
@@ -26,10 +27,10 @@ idle-accepted trigger bit h = bits-accepted trigger 1 (accepted-bits trigger bit
 module _ (columns : Kind → List ℕ) (laws : ClockLaws columns) where
   -- an idle clock of a receiver that holds no bit
   pub idle-clock : (core : Core) (trigger bit : ℕ) → wellFormed (receiver core nothingHeld) ≡ true → refusalOf (clock trigger bit) ≡ 0
-      → let quiet = idleClock core trigger in
-      call columns (receiver core nothingHeld) (clock trigger 1) ≡ result (receiver (quiet .core) nothingHeld) 0 (quiet .outputs) 0
+      → let idle = idleClock core trigger in
+      call columns (receiver core nothingHeld) (clock trigger 1) ≡ result (receiver (idle .core) nothingHeld) 0 (idle .outputs) 0
   idle-clock core trigger bit e h =
-      unfinished-clock columns laws core nothingHeld nothingHeld trigger 1 e (idle-accepted trigger bit h) (laws .bit-law .idle-bit)
+      unfinished-clock columns laws core nothingHeld nothingHeld trigger 1 e (idle-accepted trigger bit h) (bit-law .idle-bit)
 
   -- ---- one call
 

@@ -12,21 +12,22 @@ use lib.ListN.{length, take, drop, getD, length-append, length-drop, length-map,
 use lib.Seq.{length-take-le, take-suc, take-length, take-at, drop-at, getD-append-add}
 use Rattle.laws.proofs.Rules.{or-true, picked, picked-by, by-test}
 use Rattle.laws.proofs.Table.{all-entries}
-use Rattle.trace_records.specs.Record.{recordNumbers, traceRecord, numbersOf}
-use Rattle.trace_records.specs.Filled.{filledLength, filledPart}
+use Rattle.trace.specs.Record.{recordNumbers, traceRecord, numbersOf}
+use Rattle.trace.specs.Filled.{filledLength, filledPart}
 use Rattle.frame.specs.declared.Kind.{Kind}
 use Rattle.receiver_state.specs.declared.Receiver.{Receiver}
 use Rattle.receiver_state.specs.WellFormed.{wellFormed}
-use Rattle.fate.specs.declared.Outputs.{Outputs}
-use Rattle.fate.specs.Fate.{columnsOf}
-use Rattle.fate.proofs.Laws.{tables-good}
-use Rattle.trace_records.specs.declared.TraceRecord.{TraceRecord}
+use Rattle.receiver_state.specs.declared.Outputs.{Outputs}
+use Rattle.frame.specs.Columns.{columnsOf}
+use Rattle.frame.proofs.Columns.{tables-good}
+use Rattle.trace.specs.declared.TraceRecord.{TraceRecord}
 use Rattle.receiver.specs.Laws.{Accepted, ClockLaws}
-use Rattle.receiver.specs.Block.{triggerBit, channelBit, byteClock, SingleClock, singly, stateAfter, recorded, recordOf, recordsOf, allNumbers, blockRecords, BlockDone, refusedBlock, acceptedBlock, blockClocks, noByteOver3, runBlock}
+use Rattle.trace.specs.Block.{triggerBit, channelBit, byteClock, SingleClock, singly, stateAfter, recorded, recordOf, recordsOf, allNumbers, blockRecords, BlockDone, refusedBlock, acceptedBlock, blockClocks, noByteOver3, runBlock}
 use Rattle.receiver.proofs.Laws.{clock-theorem}
-use Rattle.receiver.proofs.InRange.{byte-below}
-use Rattle.receiver.proofs.Run.{five-each, one-a-clock}
+use Rattle.trace.proofs.InRange.{byte-below}
+use Rattle.trace.proofs.Run.{five-each, one-a-clock}
 use Rattle.guarantees.specs.Calls.{call, run}
+use Rattle.guarantees.proofs.EveryList.{run-behind}
 use Rattle.guarantees.specs.Blocks as blocks
 use Rattle.guarantees.specs.Blocks.{clockCalls, stateBefore, answerAt, recordAt, below, singleRecords, Accepts, DoneSingly, shiftedAfter, shifted, CutInTwo, BlockTheorem, ReceiverBlocks}
 
@@ -150,7 +151,7 @@ module _ (columns : Kind → List ℕ) where
   module _ (r : Receiver) (block buffer : List ℕ) where
     accepted : Accepts r block buffer → runBlock columns r block buffer ≡ acceptedBlock columns r block buffer
     unfolding runBlock
-    accepted b = rw (b .well-formed, le-ltb blockClocks (length block) (b .short), le-ltb (length buffer) (recordNumbers * length block) (b .room), in-range block (λ place here. omega (arith, b .in-range place here))) refl
+    accepted b = rw (b .well-formed, le-ltb blockClocks (length block) (b .at-most-4096), le-ltb (length buffer) (recordNumbers * length block) (b .room), in-range block (λ place here. omega (arith, b .in-range place here))) refl
 
     refused-by-2 : wellFormed r ≡ false → runBlock columns r block buffer ≡ refusedBlock 2 r buffer
     unfolding runBlock
@@ -183,7 +184,7 @@ module _ (columns : Kind → List ℕ) where
         (λ bits z.
         record {
           well-formed = w;
-          short = ltb-false blockClocks (length block) few;
+          at-most-4096 = ltb-false blockClocks (length block) few;
           room = ltb-false (length buffer) (recordNumbers * length block) room;
           in-range = λ place here. let small : getD block place 0 < 4 = byte-below block bits place here in omega arith;
         })
@@ -237,7 +238,7 @@ module _ (columns : Kind → List ℕ) where
     is-first : Accepts r first buffer₁
     is-first = record {
       well-formed = b .well-formed;
-      short = omega (arith, b .short, length-append first second);
+      at-most-4096 = omega (arith, b .at-most-4096, length-append first second);
       room = room₁;
       in-range = λ place here.
           subst (λ (n : ℕ). n ≤ 3) (List·getD-append first second 0 place here)
@@ -247,7 +248,7 @@ module _ (columns : Kind → List ℕ) where
     is-second : Accepts (stateAfter columns r first) second buffer₂
     is-second = record {
       well-formed = w;
-      short = omega (arith, b .short, length-append first second);
+      at-most-4096 = omega (arith, b .at-most-4096, length-append first second);
       room = room₂;
       in-range = λ place here.
           subst (λ (n : ℕ). n ≤ 3) (getD-append-add first second place 0)
@@ -328,6 +329,13 @@ module _ (columns : Kind → List ℕ) (laws : ClockLaws columns) where
       let ok = before-ok r block place w in
       recorded-by (answerAt columns r block place .outputs) (triggerBit (getD block place 0)) (laws .bus-law _ _ _ ok .trigger-shown) (ok .1)
 
+  among-calls : blocks.AmongCalls columns
+  among-calls r before after block buffer b =
+      let start = run columns r before in
+      ap (λ (s : Receiver). run columns s after) (equals-singly columns start block buffer b .state-is)
+      ∙ sym (run-behind columns laws (clockCalls block) start after)
+      ∙ sym (run-behind columns laws before r (clockCalls block ++ after))
+
   cuts-never-show : blocks.CutsNeverShow columns
   cuts-never-show r first second buffer buffer₁ buffer₂ b room₁ room₂ =
       let w = state-stays r first (b .well-formed) in
@@ -351,6 +359,7 @@ block-theorem columns good =
       none-refused = none-refused columns laws;
       recorded-exactly = recorded-exactly columns laws;
       stays-well-formed = stays-well-formed columns laws;
+      among-calls = among-calls columns laws;
       cuts-never-show = cuts-never-show columns laws;
     }
 

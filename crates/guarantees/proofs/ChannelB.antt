@@ -9,9 +9,9 @@ use borrow.Author.Tests.{eqb-true}
 use Rattle.laws.proofs.Rules.{picked-by}
 use Rattle.frame.specs.declared.Kind.{Kind}
 use Rattle.frame.specs.Numbers.{frameBits}
-use Rattle.whole_frame.specs.WholeFrame.{bitsOf}
+use Rattle.frame.specs.Bits.{bitsOf, Bits}
 use Rattle.guarantees.specs.Calls.{Call, clock, read, write, refusalOf, carried, channelB, idleCall, idle}
-use Rattle.guarantees.proofs.HeldBits.{Bits, lead, by-lead}
+use Rattle.guarantees.proofs.HeldBits.{lead, by-lead}
 use Rattle.guarantees.proofs.OneCall.{accepted-bits}
 
 last-same : (xs ys : List ℕ) (x y : ℕ) → xs ++ (x ∷ []) ≡ ys ++ (y ∷ []) → (xs ≡ ys) × (x ≡ y)

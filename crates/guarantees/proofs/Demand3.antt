@@ -1,5 +1,6 @@
 -- Demand 3 over lists of calls. Assumes nothing.
 use mathlib.Core.Path.{_≡_, refl, sym, ap, _∙_}
+use mathlib.Core.Logic.{_≢_}
 use mathlib.Core.Bool.{true}
 use mathlib.Core.List.{List}
 use Prim.Native.Nat.{ℕ}
@@ -9,21 +10,23 @@ use Rattle.frame.specs.declared.Kind.{Kind}
 use Rattle.frame.specs.declared.Fields.{Fields}
 use Rattle.frame.specs.declared.Answer.{Answer}
 use Rattle.frame.specs.declared.Encoded.{Encoded}
-use Rattle.frame.specs.Numbers.{isFrame}
+use Rattle.frame.specs.Numbers.{stopBit, isFrame}
+use Rattle.frame.specs.Columns.{columnsOf, GoodTables}
 use Rattle.frame.specs.Encode.{wordOf, encodeFields}
-use Rattle.frame.specs.Decode.{decodeFrame}
+use Rattle.frame.specs.Decode.{decodeFrame, finishedAnswer}
 use Rattle.frame.specs.Frames.{InRange, flipProtected, fieldsAnswer, FrameFacts}
+use Rattle.frame.proofs.Columns.{tables-good}
 use Rattle.frame.proofs.Frames.{frame-theorem}
 use Rattle.frame.proofs.Words.{word-fits}
 use Rattle.receiver_state.specs.declared.Receiver.{Receiver}
 use Rattle.receiver_state.specs.State.{receiver, nothingHeld}
-use Rattle.fate.specs.Fate.{columnsOf, finishedAnswer}
-use Rattle.fate.specs.Laws.{FateLaws, GoodTables}
-use Rattle.fate.proofs.Laws.{fate-theorem, tables-good}
-use Rattle.receiver.specs.TakeBit.{Waits}
-use Rattle.receiver.specs.IdleClock.{idleClock}
+use Rattle.verdicts.specs.Laws.{VerdictLaws}
+use Rattle.verdicts.proofs.Laws.{verdict-theorem}
+use Rattle.channel_b.specs.TakeBit.{Waits}
+use Rattle.idle_clock.specs.IdleClock.{idleClock}
 use Rattle.receiver.specs.Laws.{ClockLaws}
-use Rattle.receiver.proofs.Laws.{waits-none, clock-theorem}
+use Rattle.channel_b.proofs.Laws.{waits-none}
+use Rattle.receiver.proofs.Laws.{clock-theorem}
 use Rattle.guarantees.specs.Calls.{Call, clock, CallResult, result, idle}
 use Rattle.guarantees.specs.FrameLists.{lastCall}
 use Rattle.guarantees.specs.LastClock.{withFrame, withCorrection, withDoubleError}
@@ -31,7 +34,7 @@ use Rattle.guarantees.specs.Demand3 as demand
 use Rattle.guarantees.proofs.LastClock.{corrected-last, uncorrectable-last, corrected-frame, uncorrectable-frame}
 use Rattle.guarantees.proofs.CleanLast.{DecodesTo, clean-last}
 use Rattle.guarantees.proofs.ChannelB.{idle-last}
-use Rattle.guarantees.proofs.EveryList.{refusals, refused-law, reads-leave, ids-stay, ids-last, stays-well-formed, forty-one-ones, run-last, answers-last}
+use Rattle.guarantees.proofs.EveryList.{refusals, refused-law, reads-leave, ids-stay, ids-last, stays-well-formed, forty-one-ones, run-behind, answers-behind, run-last, answers-last}
 use Rattle.guarantees.proofs.Ending.{Ending, ending}
 
 -- ---- frames
@@ -45,6 +48,13 @@ is-frame columns kind number facts e =
     twelve : _≡_ {A = ℕ} 12 0 → ⊥
     twelve z = omega arith
 
+-- one that is not dropped for its stop bit has stop bit 1
+stop-one : (columns : List ℕ) (kind : Kind) (number : ℕ) → FrameFacts columns kind → isFrame kind number ≡ true → decodeFrame columns kind number .verdict ≢ 7
+    → stopBit number ≡ 1
+stop-one columns kind number facts frame n =
+    let some : stopBit number ≢ 0 = λ z. n (ap (λ (a : Answer). a .verdict) (facts .stop-exactly number frame .1 z)) in
+    omega (arith, some)
+
 answer-of : (columns : Kind → List ℕ) (kind : Kind) (number : ℕ) → isFrame kind number ≡ true → decodeFrame (columns kind) kind number ≡ finishedAnswer columns kind number
 unfolding decodeFrame finishedAnswer
 answer-of columns kind number e = rw e refl
@@ -53,8 +63,8 @@ module _ (columns : Kind → List ℕ) (good : GoodTables columns) where
   facts : (kind : Kind) → FrameFacts (columns kind) kind
   facts kind = frame-theorem (columns kind) kind (good kind .0) (good kind .1)
 
-  fates : FateLaws columns
-  fates = fate-theorem columns good
+  verdicts : VerdictLaws columns
+  verdicts = verdict-theorem columns good
 
   laws : ClockLaws columns
   laws = clock-theorem columns good
@@ -71,6 +81,16 @@ module _ (columns : Kind → List ℕ) (good : GoodTables columns) where
       decodes-to kind (encodeFields (columns kind) kind fields) 0 fields range
       (ap (λ (e : Encoded). decodeFrame (columns kind) kind (e .number)) (sym (facts kind .encodes-in-range fields range)) ∙ facts kind .round-trip fields range)
 
+  decoded-stop : (kind : Kind) (number flag : ℕ) (fields : Fields) → DecodesTo columns kind number flag fields → stopBit number ≡ 1
+  decoded-stop kind number flag fields d =
+      stop-one (columns kind) kind number (facts kind) (d .is-frame) (λ z. zero-not-7 (sym (ap (λ (a : Answer). a .verdict) (d .decoded)) ∙ z))
+    where
+      zero-not-7 : _≡_ {A = ℕ} 0 7 → ⊥
+      zero-not-7 z = omega arith
+
+  eight-not-7 : _≡_ {A = ℕ} 8 7 → ⊥
+  eight-not-7 z = omega arith
+
   -- the table of verdicts on the idle list's last clock
   whole : (r : Receiver) (before : List Call) (trigger bit : ℕ) (kind : Kind) (number flag : ℕ) (fields : Fields)
       → DecodesTo columns kind number flag fields → Ending columns laws r before trigger bit kind number
@@ -83,13 +103,13 @@ module _ (columns : Kind → List ℕ) (good : GoodTables columns) where
   clean : demand.Clean columns
   clean r before trigger bit kind fields range s =
       let d = encoded-decodes kind fields range in
-      let e = ending columns laws r before trigger bit kind (encodeFields (columns kind) kind fields) (d .is-frame) s in
+      let e = ending columns laws r before trigger bit kind (encodeFields (columns kind) kind fields) (d .is-frame) (decoded-stop kind _ 0 fields d) s in
       record {
         as-idle-before = e .as-idle-before;
         whole = whole r before trigger bit kind (encodeFields (columns kind) kind fields) 0 fields d e;
         by-name =
             rw (e .ends, e .idle-ends)
-            (clean-last columns fates kind (encodeFields (columns kind) kind fields) fields (r .core .ids) (idleClock (e .core) trigger) d
+            (clean-last columns verdicts kind (encodeFields (columns kind) kind fields) fields (r .core .ids) (idleClock (e .core) trigger) d
             (sym (ap (λ (x : CallResult). x .receiver .core .ids) (e .idle-ends)) ∙ ids-last columns laws r (idle before) (clock trigger 1)));
       }
 
@@ -99,7 +119,7 @@ module _ (columns : Kind → List ℕ) (good : GoodTables columns) where
       let wrong = flipProtected kind p number in
       let c = clean r sound trigger sent kind fields range s in
       let f = decodes-to kind wrong 1 fields range (facts kind .one-flip fields p range protected) in
-      let e = ending columns laws r flipped trigger bit kind wrong (f .is-frame) t in
+      let e = ending columns laws r flipped trigger bit kind wrong (f .is-frame) (decoded-stop kind wrong 1 fields f) t in
       let equal : lastCall columns r flipped (clock trigger bit) ≡ withCorrection (lastCall columns r sound (clock trigger sent)) =
       whole r flipped trigger bit kind wrong 1 fields f e
       ∙ corrected-frame kind fields (lastCall columns r (idle flipped) (clock trigger 1))
@@ -118,7 +138,8 @@ module _ (columns : Kind → List ℕ) (good : GoodTables columns) where
       let flipped = flipProtected kind q (flipProtected kind p (encodeFields (columns kind) kind fields)) in
       let eight = facts kind .two-flips (wordOf kind fields) p q (word-fits kind fields range) protected protected′ differ in
       let frame = is-frame (columns kind) kind flipped (facts kind) (ap (λ (a : Answer). a .refusal) eight) in
-      let e = ending columns laws r before trigger bit kind flipped frame s in
+      let stop = stop-one (columns kind) kind flipped (facts kind) frame (λ z. eight-not-7 (sym (ap (λ (a : Answer). a .verdict) eight) ∙ z)) in
+      let e = ending columns laws r before trigger bit kind flipped frame stop s in
       let waits : Waits (lastCall columns r (idle before) (clock trigger 1) .receiver) = rw (e .idle-ends) (waits-none (idleClock (e .core) trigger .core)) in
       let nothing-shown = idle-shows r before trigger bit kind flipped e in
       let equal : lastCall columns r before (clock trigger bit) ≡ withDoubleError (lastCall columns r (idle before) (clock trigger 1)) =
@@ -134,6 +155,11 @@ demand3-theorem columns good =
       stays-well-formed = λ r calls e. stays-well-formed columns (laws columns good) calls r e;
       ids-stay = λ r calls. ids-stay columns (laws columns good) calls r;
       forty-one-ones = forty-one-ones columns (laws columns good);
+      one-behind-another = λ r first second.
+          record {
+            state = run-behind columns (laws columns good) first r second;
+            answers-are = answers-behind columns (laws columns good) first r second;
+          };
       whole-list = λ r before trigger bit.
           record {
             state = run-last columns (laws columns good) before r (clock trigger bit);

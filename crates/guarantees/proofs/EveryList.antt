@@ -4,18 +4,19 @@ use mathlib.Core.Logic.{_≢_}
 use mathlib.Core.Bool.{true}
 use mathlib.Core.List.{List, [], _∷_, _++_, map}
 use Prim.Native.Nat.{ℕ}
+use lib.ListN.{replicate}
 use native.Mathlib.Omega.{arith}
 use lib.Dec.{eqb}
 use Rattle.laws.proofs.Rules.{picked}
 use Rattle.frame.specs.declared.Kind.{Kind}
+use Rattle.frame.specs.Bits.{Bits}
 use Rattle.receiver_state.specs.declared.Held.{Held}
 use Rattle.receiver_state.specs.declared.Receiver.{Receiver}
 use Rattle.receiver_state.specs.State.{receiver, nothingHeld}
 use Rattle.receiver_state.specs.WellFormed.{wellFormed}
 use Rattle.receiver_state.proofs.WellFormed.{receiver-facts}
-use Rattle.fate.specs.declared.Outputs.{Outputs}
-use Rattle.receiver.specs.Clock.{noOutputs}
-use Rattle.receiver.specs.StepLaws.{ShowsNothing}
+use Rattle.receiver_state.proofs.Shown.{shows-nothing}
+use Rattle.channel_b.proofs.Laws.{waits-law}
 use Rattle.receiver.specs.Laws.{ClockLaws}
 use Rattle.registers.specs.declared.WriteAnswer.{WriteAnswer}
 use Rattle.registers.specs.declared.ReadAnswer.{ReadAnswer}
@@ -24,12 +25,9 @@ use Rattle.registers.proofs.Laws.{write-laws}
 use Rattle.guarantees.specs.Calls.{Call, clock, read, write, CallAnswer, call, run, answers, refusalOf, carried, channelB}
 use Rattle.guarantees.specs.FrameLists.{lastCall}
 use Rattle.guarantees.specs.Demand3 as demand
-use Rattle.guarantees.proofs.HeldBits.{heldOver, held-append, Bits, over-facts, enough-ones}
+use Rattle.guarantees.proofs.HeldBits.{heldOver, held-append, over-facts, enough-ones}
 use Rattle.guarantees.proofs.OneCall.{refuses, keeps, holds-after}
 use Rattle.guarantees.proofs.ChannelB.{channelB-bits, front-bits}
-
-shows-nothing : (shown : Outputs) → ShowsNothing shown → shown ≡ noOutputs
-shows-nothing shown n = rw (n .no-trigger, n .no-missed, n .no-strobe, n .no-number, n .no-verdict, n .no-flag, n .no-word) refl
 
 module _ (columns : Kind → List ℕ) (laws : ClockLaws columns) where
   pub refusals : (cs : List Call) (r : Receiver) → wellFormed r ≡ true → map (λ (a : CallAnswer). a .refusal) (answers columns r cs) ≡ map refusalOf cs
@@ -82,25 +80,34 @@ module _ (columns : Kind → List ℕ) (laws : ClockLaws columns) where
 
   pub forty-one-ones : demand.FortyOneOnes columns
   forty-one-ones r calls earlier e h =
-      let bits = front-bits earlier _ (subst Bits h (channelB-bits calls)) in
+      let bits = front-bits earlier (replicate 41 1) (subst Bits h (channelB-bits calls)) in
       let none : run columns r calls .held ≡ nothingHeld =
-      holds-run calls r e ∙ ap (heldOver (r .held)) h ∙ held-append (r .held) earlier _
-      ∙ enough-ones _ (heldOver (r .held) earlier) (omega arith) (over-facts earlier (r .held) bits (receiver-facts r e .of-held)) in
-      laws .waits-law (run columns r calls) (stays-well-formed calls r e) .1 none
+      holds-run calls r e ∙ ap (heldOver (r .held)) h ∙ held-append (r .held) earlier (replicate 41 1)
+      ∙ enough-ones 41 (heldOver (r .held) earlier) (omega arith) (over-facts earlier (r .held) bits (receiver-facts r e .of-held)) in
+      waits-law .holds-nothing (run columns r calls) (stays-well-formed calls r e) .1 none
 
   pub ids-last : (r : Receiver) (before : List Call) (last : Call) → lastCall columns r before last .receiver .core .ids ≡ r .core .ids
   unfolding lastCall
   ids-last r before last = ids-call (run columns r before) last ∙ ids-stay before r
 
-  -- ---- the whole list and its last call
+  -- ---- one list behind another, and the whole list and its last call
+
+  pub run-behind : (cs : List Call) (r : Receiver) (ds : List Call) → run columns r (cs ++ ds) ≡ run columns (run columns r cs) ds
+  unfolding run
+  run-behind [] r ds = refl
+  run-behind (c ∷ cs) r ds = run-behind cs (call columns r c .receiver) ds
+
+  pub answers-behind : (cs : List Call) (r : Receiver) (ds : List Call)
+      → answers columns r (cs ++ ds) ≡ answers columns r cs ++ answers columns (run columns r cs) ds
+  unfolding run answers
+  answers-behind [] r ds = refl
+  answers-behind (c ∷ cs) r ds = ap (λ (later : List CallAnswer). call columns r c .answer ∷ later) (answers-behind cs (call columns r c .receiver) ds)
 
   pub run-last : (cs : List Call) (r : Receiver) (last : Call) → run columns r (cs ++ (last ∷ [])) ≡ lastCall columns r cs last .receiver
   unfolding run lastCall
-  run-last [] r last = refl
-  run-last (c ∷ cs) r last = run-last cs (call columns r c .receiver) last
+  run-last cs r last = run-behind cs r (last ∷ [])
 
   pub answers-last : (cs : List Call) (r : Receiver) (last : Call)
       → answers columns r (cs ++ (last ∷ [])) ≡ answers columns r cs ++ (lastCall columns r cs last .answer ∷ [])
-  unfolding run answers lastCall
-  answers-last [] r last = refl
-  answers-last (c ∷ cs) r last = ap (λ (later : List CallAnswer). call columns r c .answer ∷ later) (answers-last cs (call columns r c .receiver) last)
+  unfolding answers lastCall
+  answers-last cs r last = answers-behind cs r (last ∷ [])

@@ -2,7 +2,7 @@
 use mathlib.Core.Path.{_≡_, refl, sym, ap, _∙_}
 use mathlib.Core.Bool.{Bool, true, false, cond}
 use mathlib.Core.List.{List, [], _∷_, _++_}
-use Prim.Native.Nat.{ℕ, zero, suc, _+_, _/_, _%_, _<_}
+use Prim.Native.Nat.{ℕ, _+_, _/_, _%_, _<_}
 use native.Mathlib.Nat.{mod-lt}
 use native.Mathlib.Omega.{arith}
 use borrow.Author.Tests.{eqb-true}
@@ -11,11 +11,12 @@ use lib.ListN.{length, length-append}
 use Rattle.frame.specs.declared.Kind.{Kind}
 use Rattle.frame.specs.declared.Kind.the-variants.{Short, Long}
 use Rattle.frame.specs.Numbers.{frameBits}
-use Rattle.whole_frame.specs.WholeFrame.{bitsOf}
+use Rattle.frame.specs.Bits.{bitsOf, Bits}
+use Rattle.frame.proofs.Bits.{bits-law}
 use Rattle.guarantees.specs.Calls.{Call, clock, read, write, refusalOf, carried, channelB, idleCall, idle}
 use Rattle.guarantees.specs.FrameLists.{SameCalls}
 use Rattle.guarantees.specs.Existence.{carry, ListsExist}
-use Rattle.guarantees.proofs.HeldBits.{Bits, lead, by-lead}
+use Rattle.guarantees.proofs.HeldBits.{lead, by-lead}
 use Rattle.guarantees.proofs.OneCall.{accepted-bits, bits-accepted}
 use Rattle.guarantees.proofs.ChannelB.{channelB-append}
 
@@ -62,24 +63,6 @@ carries (clock trigger other ∷ cs) (b ∷ bs) p e =
 
 -- ---- the bits of a number
 
-bits-append : (xs : List ℕ) (b : ℕ) → Bits xs → b < 2 → Bits (xs ++ (b ∷ []))
-bits-append [] b p h = (h, tt)
-bits-append (x ∷ xs) b (p, q) h = (p, bits-append xs b q h)
-
-bits-of : (n number : ℕ) → Bits (bitsOf n number)
-unfolding bitsOf
-bits-of zero number = tt
-bits-of (suc n) number = bits-append (bitsOf n (number / 2)) (number % 2) (bits-of n (number / 2)) (mod-lt number (lit< tt))
-
-length-of : (n number : ℕ) → length (bitsOf n number) ≡ n
-unfolding bitsOf
-length-of zero number = refl
-length-of (suc n) number =
-    let rest : length (bitsOf n (number / 2)) ≡ n = length-of n (number / 2) in
-    let one : length (bitsOf n (number / 2) ++ (number % 2 ∷ [])) ≡ length (bitsOf n (number / 2)) + 1 =
-    length-append (bitsOf n (number / 2)) (number % 2 ∷ []) in
-    omega arith
-
 lead-length : (kind : Kind) (n : ℕ) → n + 1 ≡ frameBits kind → lead kind ≡ n
 lead-length Short n e = omega arith
 lead-length Long n e = omega arith
@@ -94,7 +77,7 @@ lists-exist r pattern trigger other kind number e w h n =
     let leads = bitsOf (lead kind) (number / 2) in
     let all : length (channelB pattern ++ (other ∷ [])) ≡ frameBits kind = ap length (sym (ends-with pattern trigger other h)) ∙ n in
     let count = lead-length kind (length (channelB pattern)) (sym (length-append (channelB pattern) (other ∷ [])) ∙ all) in
-    let c = carries pattern leads (bits-of (lead kind) (number / 2)) (length-of (lead kind) (number / 2) ∙ count) in
+    let c = carries pattern leads (bits-law .all-bits (lead kind) (number / 2)) (bits-law .count (lead kind) (number / 2) ∙ count) in
     let z = other-bit trigger other (number % 2) h (mod-lt number (lit< tt)) in
     record {
       before = carry leads pattern;

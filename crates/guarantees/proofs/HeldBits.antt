@@ -1,94 +1,95 @@
 -- The frame bits held over a list of bits of channel B: 41 ones, and the bits of a frame. Assumes nothing.
 use mathlib.Core.Path.{_≡_, refl, sym, ap, _∙_}
 use mathlib.Core.Logic.{_≢_, _⊎_, inl, inr}
-use mathlib.Core.Bool.{true}
+use mathlib.Core.Bool.{true, false}
 use mathlib.Core.List.{List, [], _∷_, _++_}
 use Prim.Native.Nat.{ℕ, zero, suc, _+_, _-_, _*_, _/_, _%_, _^_, _≤_, _<_}
 use native.Mathlib.Nat.{div-one}
 use native.Mathlib.Omega.{arith}
-use borrow.Author.Tests.{eqb-true, eqb-false, ltb-true}
-use lib.Dec.{eqb}
+use borrow.Author.Tests.{eqb-false}
+use lib.ListN.{replicate}
 use lib.Pow.{shr-shr}
 use Rattle.laws.proofs.Rules.{by-test}
 use Rattle.frame.specs.declared.Kind.{Kind}
 use Rattle.frame.specs.declared.Kind.the-variants.{Short, Long}
 use Rattle.frame.specs.Numbers.{frameBits, isFrame}
+use Rattle.frame.specs.Bits.{bitsOf, Bits}
+use Rattle.frame.proofs.Bits.{bits-law}
 use Rattle.receiver_state.specs.declared.Held.{Held}
-use Rattle.receiver_state.specs.State.{holding, nothingHeld}
+use Rattle.receiver_state.specs.State.{holding, nothingHeld, isWaiting}
 use Rattle.receiver_state.specs.WellFormed.{HeldFacts}
-use Rattle.receiver_state.proofs.HeldBits.{none-facts}
-use Rattle.receiver.specs.declared.Taken.{Taken}
-use Rattle.receiver.specs.declared.Taken.the-variants.{Unfinished, Finished}
-use Rattle.receiver.specs.TakeBit.{takeBit, heldAfter}
-use Rattle.receiver.specs.Laws.{firstBits, bitAfter}
-use Rattle.receiver.proofs.TakeBit.{TakenFacts, taken-facts}
-use Rattle.receiver.proofs.Bits.{bit-law}
-use Rattle.receiver.proofs.Laws.{none-held}
-use Rattle.whole_frame.specs.WholeFrame.{bitsOf}
-use Rattle.guarantees.specs.FrameLists.{ones}
+use Rattle.receiver_state.proofs.HeldBits.{waiting-law}
+use Rattle.channel_b.specs.declared.Taken.{Taken}
+use Rattle.channel_b.specs.declared.Taken.the-variants.{Unfinished, Finished}
+use Rattle.channel_b.specs.TakeBit.{takeBit, heldThen}
+use Rattle.channel_b.specs.Laws.{firstBits, bitAfter}
+use Rattle.channel_b.proofs.TakeBit.{TakenFacts, taken-facts}
+use Rattle.channel_b.proofs.Bits.{bit-law}
+use Rattle.channel_b.proofs.Laws.{after-frame}
 
 -- ---- the bits held after a list of bits
 
 unfoldable pub heldOver : Held → List ℕ → Held
 heldOver held [] = held
-heldOver held (b ∷ bs) = heldOver (heldAfter (takeBit held b)) bs
+heldOver held (b ∷ bs) = heldOver (heldThen (takeBit held b)) bs
 
 pub held-append : (held : Held) (xs ys : List ℕ) → heldOver held (xs ++ ys) ≡ heldOver (heldOver held xs) ys
 unfolding heldOver
 held-append held [] ys = refl
-held-append held (x ∷ xs) ys = held-append (heldAfter (takeBit held x)) xs ys
+held-append held (x ∷ xs) ys = held-append (heldThen (takeBit held x)) xs ys
 
-pub after-facts : (held : Held) (bit : ℕ) → HeldFacts held → bit < 2 → HeldFacts (heldAfter (takeBit held bit))
-after-facts held bit f b = go (takeBit held bit) (taken-facts held bit f b)
+pub then-facts : (held : Held) (bit : ℕ) → HeldFacts held → bit < 2 → HeldFacts (heldThen (takeBit held bit))
+then-facts held bit f b = go (takeBit held bit) (taken-facts held bit f b)
   where
-    go : (taken : Taken) → TakenFacts taken → HeldFacts (heldAfter taken)
+    go : (taken : Taken) → TakenFacts taken → HeldFacts (heldThen taken)
     go (Unfinished after) h = h
-    go (Finished kind number) h = none-facts
-
--- every entry is a bit
-abbrev pub Bits : List ℕ → Type 0
-Bits [] = Unit {0}
-Bits (b ∷ bs) = (b < 2) × Bits bs
+    go (Finished kind number) h = after-frame .well-formed kind number
 
 pub over-facts : (bs : List ℕ) (held : Held) → Bits bs → HeldFacts held → HeldFacts (heldOver held bs)
 unfolding heldOver
 over-facts [] held p f = f
-over-facts (b ∷ bs) held (p, q) f = over-facts bs (heldAfter (takeBit held b)) q (after-facts held b f p)
+over-facts (b ∷ bs) held (p, q) f = over-facts bs (heldThen (takeBit held b)) q (then-facts held b f p)
 
 -- ---- ones
 
 -- k ones are enough for a receiver that waits, and for one that holds 42 - k bits
 abbrev Near : ℕ → Held → Type 0
-Near k held = (held .count ≡ 0) ⊎ (42 ≤ k + held .count)
+Near k held = (held ≡ nothingHeld) ⊎ (42 ≤ k + held .count)
 
-nearer : (k : ℕ) (held : Held) → HeldFacts held → Near (suc k) held → Near k (heldAfter (takeBit held 1))
-nearer k held f near = by-test (eqb (held .count) 0) (λ t. waiting (eqb-true (held .count) 0 t)) (λ t. later near (eqb-false (held .count) 0 t))
+nearer : (k : ℕ) (held : Held) → HeldFacts held → Near (suc k) held → Near k (heldThen (takeBit held 1))
+nearer k held f near = by-test (isWaiting held) (λ t. waiting (waiting-law held f .0 t)) (λ t. later near t)
   where
-    waiting : held .count ≡ 0 → Near k (heldAfter (takeBit held 1))
-    waiting z = rw (none-held (held .count) (held .bits) z f, bit-law .idle-bit) (inl refl)
+    waiting : held ≡ nothingHeld → Near k (heldThen (takeBit held 1))
+    waiting z = rw (z, bit-law .idle-bit) (inl refl)
 
     grown : 42 ≤ suc k + held .count
         → ((kind : Kind) × (takeBit held 1 ≡ Finished kind (held .bits * 2 + 1))) ⊎ (takeBit held 1 ≡ Unfinished (holding (held .count + 1) (held .bits * 2 + 1)))
-        → Near k (heldAfter (takeBit held 1))
-    grown h (inl (kind, e)) = rw e (inl refl)
+        → Near k (heldThen (takeBit held 1))
+    grown h (inl (kind, e)) = rw e (inl (after-frame .stop-one kind (held .bits * 2 + 1) (odd (held .bits))))
+      where
+        odd : (n : ℕ) → (n * 2 + 1) % 2 ≡ 1
+        odd n = omega arith
     grown h (inr e) = rw e (inr (omega arith))
 
-    later : Near (suc k) held → held .count ≢ 0 → Near k (heldAfter (takeBit held 1))
-    later (inl z) n = absurd (n z)
-    later (inr h) n = grown h (bit-law .later-bit held 1 n)
+    later : Near (suc k) held → isWaiting held ≡ false → Near k (heldThen (takeBit held 1))
+    later (inl z) w = waiting z
+    later (inr h) w = grown h (bit-law .later-bit held 1 f (omega arith) w)
 
-ones-wait : (k : ℕ) (held : Held) → HeldFacts held → Near k held → heldOver held (ones k) ≡ nothingHeld
-unfolding heldOver ones
-ones-wait zero held f (inl z) = none-held (held .count) (held .bits) z f
+ones-wait : (k : ℕ) (held : Held) → HeldFacts held → Near k held → heldOver held (replicate k 1) ≡ nothingHeld
+unfolding heldOver
+ones-wait zero held f (inl z) = z
 ones-wait zero held f (inr h) = absurd (omega (arith, f .few))
-ones-wait (suc k) held f near = ones-wait k (heldAfter (takeBit held 1)) (after-facts held 1 f (omega arith)) (nearer k held f near)
+ones-wait (suc k) held f near = ones-wait k (heldThen (takeBit held 1)) (then-facts held 1 f (omega arith)) (nearer k held f near)
+
+some-held : (held : Held) → isWaiting held ≡ false → held .count ≢ 0
+unfolding isWaiting
+some-held held w = eqb-false (held .count) 0 w
 
 -- 41 are enough for every receiver
-pub enough-ones : (k : ℕ) (held : Held) → 41 ≤ k → HeldFacts held → heldOver held (ones k) ≡ nothingHeld
+pub enough-ones : (k : ℕ) (held : Held) → 41 ≤ k → HeldFacts held → heldOver held (replicate k 1) ≡ nothingHeld
 enough-ones k held h f =
     ones-wait k held f
-    (by-test (eqb (held .count) 0) (λ t. inl (eqb-true (held .count) 0 t))
-    (λ t. let n : held .count ≢ 0 = eqb-false (held .count) 0 t in inr (omega arith)))
+    (by-test (isWaiting held) (λ t. inl (waiting-law held f .0 t)) (λ t. let n : held .count ≢ 0 = some-held held t in inr (omega arith)))
 
 -- ---- the bits of a frame
 
@@ -105,12 +106,6 @@ holds-one-more : (bs : List ℕ) (b : ℕ) (held between after : Held) → Holds
 holds-one-more [] b held between after h e = (after, rw h e, refl)
 holds-one-more (c ∷ bs) b held between after (next, t, h) e = (next, t, holds-one-more bs b next between after h e)
 
--- the start bit is 0, so the number has nothing at its place
-start-zero : (kind : Kind) (number : ℕ) → isFrame kind number ≡ true → number / 2 ^ (frameBits kind - 1) ≡ 0
-unfolding isFrame
-start-zero Short number e = let h : number < 2 ^ 14 = ltb-true number (2 ^ 14) e in omega arith
-start-zero Long number e = let h : number / 2 ^ 40 ≡ 1 = eqb-true (number / 2 ^ 40) 1 e in omega arith
-
 half : (number w n : ℕ) → suc n ≤ w → number / 2 ^ (w - suc n) / 2 ≡ number / 2 ^ (w - n)
 half number w n h =
     let e : w - n ≡ (w - suc n) + 1 = omega arith in
@@ -119,7 +114,7 @@ half number w n h =
 first-held : (kind : Kind) (number : ℕ) → isFrame kind number ≡ true → (n : ℕ) → suc n < frameBits kind
     → Holds nothingHeld (bitsOf (suc n) (number / 2 ^ (frameBits kind - suc n))) (firstBits kind number (suc n))
 unfolding bitsOf
-first-held kind number e zero h = rw (start-zero kind number e) (holding 1 0, bit-law .start-bit, refl)
+first-held kind number e zero h = rw (bits-law .start kind number e) (holding 1 0, bit-law .start-bit, refl)
 first-held kind number e (suc n) h =
     let next : takeBit (firstBits kind number (suc n)) (bitAfter kind number (suc n)) ≡ Unfinished (firstBits kind number (suc n + 1)) =
     bit-law .next-bit kind number (suc n) e (omega arith) (omega arith) in

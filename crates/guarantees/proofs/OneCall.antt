@@ -16,15 +16,16 @@ use Rattle.receiver_state.specs.State.{receiver, nothingHeld}
 use Rattle.receiver_state.specs.WellFormed.{wellFormed}
 use Rattle.receiver_state.proofs.WellFormed.{receiver-facts, receiver-ok}
 use Rattle.receiver_state.proofs.HeldBits.{none-facts}
-use Rattle.fate.specs.Laws.{finishedBy}
+use Rattle.receiver_state.specs.Shown.{noOutputs}
 use Rattle.receiver.specs.declared.ClockAnswer.{ClockAnswer}
-use Rattle.receiver.specs.declared.Taken.{Taken}
-use Rattle.receiver.specs.declared.Taken.the-variants.{Unfinished, Finished}
-use Rattle.receiver.specs.TakeBit.{takeBit, heldAfter}
-use Rattle.receiver.specs.IdleClock.{idleClock}
-use Rattle.receiver.specs.Clock.{noOutputs}
+use Rattle.channel_b.specs.declared.Taken.{Taken}
+use Rattle.channel_b.specs.declared.Taken.the-variants.{Unfinished, Finished}
+use Rattle.channel_b.specs.TakeBit.{takeBit, heldAfter, heldThen}
+use Rattle.idle_clock.specs.IdleClock.{idleClock}
+use Rattle.verdicts.specs.Finished.{finishedBy}
 use Rattle.receiver.specs.Laws.{ClockLaws}
-use Rattle.registers.specs.Map.{registerByte, written}
+use Rattle.register_map.specs.Map.{registerByte}
+use Rattle.register_map.specs.Change.{afterWrite}
 use Rattle.registers.specs.Access.{readRefusal, readAnswer, writeRefusal, writeAnswer}
 use Rattle.registers.proofs.Laws.{write-laws}
 use Rattle.guarantees.specs.Calls.{Call, clock, read, write, CallResult, result, call, refusalOf, carried}
@@ -82,7 +83,7 @@ reads columns core held number e =
 
 pub writes : (columns : Kind → List ℕ) (core : Core) (held : Held) (number value : ℕ) → wellFormed (receiver core held) ≡ true
     → call columns (receiver core held) (write number value)
-    ≡ result (receiver (cond (eqb (writeRefusal number value) 0) (written core number value) core) held) (writeRefusal number value) noOutputs 0
+    ≡ result (receiver (cond (eqb (writeRefusal number value) 0) (afterWrite core number value) core) held) (writeRefusal number value) noOutputs 0
 unfolding call writeAnswer
 writes columns core held number value e =
     by-test (eqb (writeRefusal number value) 0) (λ t. rw (e, t, eqb-true (writeRefusal number value) 0 t) refl) (λ t. rw (e, t) refl)
@@ -126,7 +127,7 @@ module _ (columns : Kind → List ℕ) (laws : ClockLaws columns) where
   pub finished-clock : (core : Core) (held : Held) (trigger bit : ℕ) (kind : Kind) (number : ℕ) → wellFormed (receiver core held) ≡ true
       → refusalOf (clock trigger bit) ≡ 0 → takeBit held bit ≡ Finished kind number
       → let done = finishedBy columns kind number (idleClock core trigger) in
-      call columns (receiver core held) (clock trigger bit) ≡ result (receiver (done .core) nothingHeld) 0 (done .outputs) 0
+      call columns (receiver core held) (clock trigger bit) ≡ result (receiver (done .core) (heldAfter kind number)) 0 (done .outputs) 0
   unfolding call
   finished-clock core held trigger bit kind number e h t =
       let b = accepted-bits trigger bit h in
@@ -143,6 +144,6 @@ module _ (columns : Kind → List ℕ) (laws : ClockLaws columns) where
       (λ t. rw t (ap (λ (d : CallResult). d .receiver .held) (refused-clock r trigger bit e t)))
     where
       by-taken : refusalOf (clock trigger bit) ≡ 0 → (taken : Taken) → takeBit (r .held) bit ≡ taken
-          → call columns r (clock trigger bit) .receiver .held ≡ heldAfter (takeBit (r .held) bit)
+          → call columns r (clock trigger bit) .receiver .held ≡ heldThen (takeBit (r .held) bit)
       by-taken z (Unfinished after) t = rw t (ap (λ (d : CallResult). d .receiver .held) (unfinished-clock (r .core) (r .held) after trigger bit e z t))
       by-taken z (Finished kind number) t = rw t (ap (λ (d : CallResult). d .receiver .held) (finished-clock (r .core) (r .held) trigger bit kind number e z t))

@@ -1,18 +1,17 @@
 -- Document 02, Q-3: what holds of every block, over the columns of each kind of frame. Proved in proofs/Blocks.antt.
--- `runBlock` of the crate `receiver` is what the function `run_block` gives by its contract; `ttcrx_run_block` leaves and answers the same.
+-- `runBlock` of the crate `trace` is what the function `run_block` gives by its contract; `ttcrx_run_block` leaves and answers the same.
 use Prim.Native.Nat.{ℕ, zero, suc, _+_, _*_, _/_, _%_, _<_, _≤_}
 use mathlib.Core.Path.{_≡_}
 use mathlib.Core.Logic.{_≢_, _⊎_, _↔_}
 use mathlib.Core.Bool.{true, false, cond}
 use mathlib.Core.List.{List, [], _∷_, _++_, map}
 use lib.ListN.{length, take, drop, getD}
-use Rattle.trace_records.specs.Filled.{filledPart}
+use Rattle.trace.specs.Filled.{filledPart}
 use Rattle.frame.specs.declared.Kind.{Kind}
 use Rattle.receiver_state.specs.declared.Receiver.{Receiver}
 use Rattle.receiver_state.specs.WellFormed.{wellFormed}
-use Rattle.fate.specs.Fate.{columnsOf}
-use Rattle.fate.specs.Laws.{GoodTables}
-use Rattle.receiver.specs.Block.{recorded, BlockDone, refusedBlock, runBlock}
+use Rattle.frame.specs.Columns.{columnsOf, GoodTables}
+use Rattle.trace.specs.Block.{recorded, BlockDone, refusedBlock, runBlock}
 use Rattle.guarantees.specs.Calls.{Call, clock, CallAnswer, call, run}
 
 -- ---- the clocks of a block as a list of calls
@@ -63,7 +62,7 @@ singleRecords columns r block = below (recordAt columns r block) (length block)
 -- what is not refused: the state is well formed, the block has at most 4,096 bytes, there are five numbers of room for each, and no byte is over 3
 pub record Accepts (r : Receiver) (block buffer : List ℕ) : Type 0 where
   pub well-formed : wellFormed r ≡ true
-  pub short : length block ≤ 4096
+  pub at-most-4096 : length block ≤ 4096
   pub room : 5 * length block ≤ length buffer
   pub in-range : (place : ℕ) → place < length block → getD block place 0 ≤ 3
 
@@ -121,6 +120,13 @@ module _ (columns : Kind → List ℕ) where
   StaysWellFormed =
       (r : Receiver) (block buffer : List ℕ) → wellFormed r ≡ true → wellFormed (runBlock columns r block buffer .answer .receiver) ≡ true
 
+  -- a block among other calls is its clocks: the state that the calls after it get, and so all that `Demand3` says of lists, is that of one list
+  abbrev pub AmongCalls : Type 0
+  AmongCalls =
+      (r : Receiver) (before after : List Call) (block buffer : List ℕ) → let start = run columns r before in
+      Accepts start block buffer
+      → run columns (runBlock columns start block buffer .answer .receiver) after ≡ run columns r (before ++ (clockCalls block ++ after))
+
 -- ---- a block cut in two
 
 -- so many clocks are added to every fifth number, after the next n
@@ -162,6 +168,7 @@ pub record BlockLaws (columns : Kind → List ℕ) : Type 0 where
   pub none-refused : NoneRefused columns
   pub recorded-exactly : RecordedExactly columns
   pub stays-well-formed : StaysWellFormed columns
+  pub among-calls : AmongCalls columns
   pub cuts-never-show : CutsNeverShow columns
 
 abbrev pub BlockTheorem : Type 0

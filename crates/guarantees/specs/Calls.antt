@@ -7,8 +7,9 @@ use lib.Dec.{eqb, ltb}
 use Rattle.frame.specs.declared.Kind.{Kind}
 use Rattle.receiver_state.specs.declared.Receiver.{Receiver}
 use Rattle.receiver_state.specs.State.{receiver}
-use Rattle.fate.specs.declared.Outputs.{Outputs}
-use Rattle.receiver.specs.Clock.{noOutputs, clockAnswer}
+use Rattle.receiver_state.specs.declared.Outputs.{Outputs}
+use Rattle.receiver_state.specs.Shown.{noOutputs}
+use Rattle.receiver.specs.Clock.{clockAnswer}
 use Rattle.registers.specs.Access.{readRefusal, readAnswer, afterRead, writeRefusal, writeAnswer}
 
 -- ---- one call

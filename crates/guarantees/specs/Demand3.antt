@@ -8,19 +8,19 @@ use mathlib.Core.Path.{_≡_}
 use mathlib.Core.Logic.{_≢_}
 use mathlib.Core.Bool.{true}
 use mathlib.Core.List.{List, _++_, map}
+use lib.ListN.{replicate}
 use Rattle.hamming.specs.declared.WrongBit.{WrongBit}
 use Rattle.frame.specs.declared.Kind.{Kind}
 use Rattle.frame.specs.declared.Fields.{Fields}
+use Rattle.frame.specs.Columns.{columnsOf, GoodTables}
 use Rattle.frame.specs.Encode.{encodeFields}
 use Rattle.frame.specs.Frames.{InRange, flipProtected, ProtectedIn, fieldsAnswer}
 use Rattle.receiver_state.specs.declared.Receiver.{Receiver}
+use Rattle.receiver_state.specs.Shown.{noOutputs}
 use Rattle.receiver_state.specs.WellFormed.{wellFormed}
-use Rattle.fate.specs.Fate.{columnsOf}
-use Rattle.fate.specs.Laws.{GoodTables}
-use Rattle.receiver.specs.TakeBit.{Waits}
-use Rattle.receiver.specs.Clock.{noOutputs}
+use Rattle.channel_b.specs.TakeBit.{Waits}
 use Rattle.guarantees.specs.Calls.{Call, clock, read, CallAnswer, CallResult, call, run, answers, refusalOf, channelB, idle}
-use Rattle.guarantees.specs.FrameLists.{ones, Sends, SameCalls, lastCall, AsIdleBefore, WholeList}
+use Rattle.guarantees.specs.FrameLists.{Sends, SameCalls, lastCall, AsIdleBefore, OneBehindAnother, WholeList}
 use Rattle.guarantees.specs.LastClock.{withFrame, withCorrection, withDoubleError, CleanLast, CorrectedLast, UncorrectableLast}
 
 module _ (columns : Kind → List ℕ) where
@@ -52,7 +52,7 @@ module _ (columns : Kind → List ℕ) where
   -- "if channel B was 1 on its last 41 clocks, the receiver then waits for a start bit (a refused call is no clock)"
   abbrev pub FortyOneOnes : Type 0
   FortyOneOnes =
-      (r : Receiver) (calls : List Call) (earlier : List ℕ) → wellFormed r ≡ true → channelB calls ≡ earlier ++ ones 41
+      (r : Receiver) (calls : List Call) (earlier : List ℕ) → wellFormed r ≡ true → channelB calls ≡ earlier ++ replicate 41 1
       → Waits (run columns r calls)
 
   -- ---- lists that carry a frame
@@ -113,6 +113,7 @@ module _ (columns : Kind → List ℕ) where
     pub stays-well-formed : StaysWellFormed
     pub ids-stay : IdsStay
     pub forty-one-ones : FortyOneOnes
+    pub one-behind-another : (r : Receiver) (first second : List Call) → OneBehindAnother columns r first second
     pub whole-list : (r : Receiver) (before : List Call) (trigger bit : ℕ) → WholeList columns r before trigger bit
     pub clean : Clean
     pub one-flip : OneFlip

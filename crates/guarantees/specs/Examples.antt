@@ -3,19 +3,19 @@ use Prim.Native.Nat.{ℕ, zero, suc}
 use mathlib.Core.Path.{_≡_}
 use mathlib.Core.Bool.{true}
 use mathlib.Core.List.{List, [], _∷_, _++_, map}
+use lib.ListN.{replicate}
 use Rattle.hamming.specs.declared.WrongBit.the-variants.{Data, Check}
 use Rattle.frame.specs.declared.Kind.the-variants.{Short}
 use Rattle.frame.specs.Numbers.{frameBits}
+use Rattle.frame.specs.Columns.{columnsOf}
+use Rattle.frame.specs.Bits.{bitsOf}
 use Rattle.frame.specs.Encode.{broadcast, encodeFields}
 use Rattle.frame.specs.Frames.{flipProtected}
 use Rattle.receiver_state.specs.declared.Receiver.{Receiver}
 use Rattle.receiver_state.specs.State.{ids, holding, receiver, freshCore, freshState}
 use Rattle.receiver_state.specs.WellFormed.{wellFormed}
-use Rattle.fate.specs.Fate.{columnsOf}
-use Rattle.receiver.specs.TakeBit.{Waits}
-use Rattle.whole_frame.specs.WholeFrame.{bitsOf}
+use Rattle.channel_b.specs.TakeBit.{Waits}
 use Rattle.guarantees.specs.Calls.{Call, clock, read, write, CallAnswer, run, answers, channelB}
-use Rattle.guarantees.specs.FrameLists.{ones}
 use Rattle.guarantees.specs.Existence.{carry}
 
 -- ---- twenty calls that carry a broadcast
@@ -45,8 +45,8 @@ stateNumbers r =
     ∷ r .core .counters .bunch ∷ r .core .counters .event ∷ r .core .settings .control ∷ r .held .count ∷ []
 
 -- refusal, byte, trigger output, missed flag, strobe, number on the bus, verdict, corrected flag, word
-abbrev pub told : CallAnswer → List ℕ
-told a =
+abbrev pub answerNumbers : CallAnswer → List ℕ
+answerNumbers a =
     a .refusal ∷ a .byte ∷ a .outputs .trigger ∷ a .outputs .missed ∷ a .outputs .strobe ∷ a .outputs .number
     ∷ a .outputs .verdict ∷ a .outputs .corrected ∷ a .outputs .word ∷ []
 
@@ -55,8 +55,8 @@ nothing = 0 ∷ 0 ∷ 0 ∷ 0 ∷ 0 ∷ 0 ∷ 0 ∷ 0 ∷ 0 ∷ []
 
 -- what the calls before the last answer: bunch 0, event low 0 and event high 0 from the first trigger on (mode 3); with control 1 (mode 1) bunch 3 on
 -- the second
-abbrev pub toldBefore : List (List ℕ)
-toldBefore =
+abbrev pub answersBefore : List (List ℕ)
+answersBefore =
     (0 ∷ 0 ∷ 1 ∷ 0 ∷ 1 ∷ 0 ∷ 0 ∷ 0 ∷ 0 ∷ [])
     ∷ (1 ∷ 0 ∷ 0 ∷ 0 ∷ 0 ∷ 0 ∷ 0 ∷ 0 ∷ 0 ∷ [])
     ∷ (0 ∷ 0 ∷ 0 ∷ 0 ∷ 2 ∷ 0 ∷ 0 ∷ 0 ∷ 0 ∷ [])
@@ -69,7 +69,7 @@ toldBefore =
 
 -- what the twenty calls answer, and what they leave in those seven numbers of the state
 pub record Gives (calls : List Call) (last state : List ℕ) : Type 0 where
-  pub tells : map told (answers columnsOf start calls) ≡ toldBefore ++ (last ∷ [])
+  pub answers-are : map answerNumbers (answers columnsOf start calls) ≡ answersBefore ++ (last ∷ [])
   pub leaves : stateNumbers (run columnsOf start calls) ≡ state
 
 pub record TwentyCalls : Type 0 where
@@ -103,6 +103,6 @@ idleClocks (suc n) = clock 0 1 ∷ idleClocks n
 -- 41 bits of a long frame are held then
 pub record FortyOnes : Type 0 where
   pub well-formed : wellFormed afterStartBit ≡ true
-  pub forty : channelB (idleClocks 40) ≡ ones 40
+  pub forty : channelB (idleClocks 40) ≡ replicate 40 1
   pub holds-41 : run columnsOf afterStartBit (idleClocks 40) .held .count ≡ 41
   pub waits-not : Waits (run columnsOf afterStartBit (idleClocks 40)) → ⊥

@@ -9,7 +9,7 @@ use Rattle.frame.specs.declared.Kind.{Kind}
 use Rattle.frame.specs.Numbers.{frameBits}
 use Rattle.receiver_state.specs.declared.Receiver.{Receiver}
 use Rattle.receiver_state.specs.WellFormed.{wellFormed}
-use Rattle.receiver.specs.TakeBit.{Waits}
+use Rattle.channel_b.specs.TakeBit.{Waits}
 use Rattle.guarantees.specs.Calls.{Call, clock, read, write, refusalOf, channelB}
 use Rattle.guarantees.specs.FrameLists.{Sends, SameCalls}
 

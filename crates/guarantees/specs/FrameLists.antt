@@ -1,22 +1,17 @@
 -- Document 01, "Demand 3, over lists of calls": lists that carry a frame, and what holds of them before their last clock.
 -- A list that ends on a clock is written as the calls before, and the trigger and the channel B bit of that clock.
 -- Words in quotation marks that document 01 does not have are the customer's demand 3.
-use Prim.Native.Nat.{ℕ, zero, suc}
+use Prim.Native.Nat.{ℕ}
 use mathlib.Core.Path.{_≡_}
 use mathlib.Core.Bool.{true}
 use mathlib.Core.List.{List, [], _∷_, _++_, map}
 use Rattle.frame.specs.declared.Kind.{Kind}
 use Rattle.frame.specs.Numbers.{frameBits}
+use Rattle.frame.specs.Bits.{bitsOf}
 use Rattle.receiver_state.specs.declared.Receiver.{Receiver}
 use Rattle.receiver_state.specs.WellFormed.{wellFormed}
-use Rattle.receiver.specs.TakeBit.{Waits}
-use Rattle.whole_frame.specs.WholeFrame.{bitsOf}
+use Rattle.channel_b.specs.TakeBit.{Waits}
 use Rattle.guarantees.specs.Calls.{Call, clock, CallAnswer, CallResult, call, run, answers, refusalOf, channelB, idle}
-
--- so many ones
-unfoldable pub ones : ℕ → List ℕ
-ones zero = []
-ones (suc n) = 1 ∷ ones n
 
 -- the list "starts from a waiting state, carries on its clocks exactly the bits of" the frame number "and ends on the last of them"
 pub record Sends (r : Receiver) (before : List Call) (trigger bit : ℕ) (kind : Kind) (number : ℕ) : Type 0 where
@@ -40,6 +35,11 @@ module _ (columns : Kind → List ℕ) where
     pub verdict-0 : map (λ (a : CallAnswer). a .outputs .verdict) (answers columns r before) ≡ map (λ (c : Call). 0) before
     pub answers-same : answers columns r before ≡ answers columns r (idle before)
     pub core-same : run columns r before .core ≡ run columns r (idle before) .core
+
+  -- one list behind another: the second goes on from the state that the first leaves
+  pub record OneBehindAnother (r : Receiver) (first second : List Call) : Type 0 where
+    pub state : run columns r (first ++ second) ≡ run columns (run columns r first) second
+    pub answers-are : answers columns r (first ++ second) ≡ answers columns r first ++ answers columns (run columns r first) second
 
   -- state and answers of the whole list, by the calls before and the last clock; and its idle list, if that clock is not refused
   pub record WholeList (r : Receiver) (before : List Call) (trigger bit : ℕ) : Type 0 where

@@ -3,7 +3,7 @@
 -- Words in quotation marks that document 01 does not have are the customer's demand 3.
 use Prim.Native.Nat.{ℕ, _/_, _%_, _<_}
 use mathlib.Core.Path.{_≡_}
-use mathlib.Core.Logic.{_≢_}
+use mathlib.Core.Logic.{_≢_, _⊎_}
 use mathlib.Core.Bool.{cond}
 use lib.Dec.{eqb}
 use Rattle.frame.specs.declared.Kind.{Kind}
@@ -14,10 +14,12 @@ use Rattle.frame.specs.Encode.{wordOf}
 use Rattle.receiver_state.specs.declared.Ids.{Ids}
 use Rattle.receiver_state.specs.declared.Core.{Core}
 use Rattle.receiver_state.specs.State.{errors, receiver, withErrors, freshCore, freshState}
-use Rattle.fate.specs.declared.Clocked.{Clocked}
-use Rattle.fate.specs.Fate.{upTo, shows, finished}
-use Rattle.fate.specs.FrameLaws.{Stands, GoodVerdict, OneHigher, registerOf}
-use Rattle.receiver.specs.TakeBit.{Waits}
+use Rattle.receiver_state.specs.declared.Clocked.{Clocked}
+use Rattle.receiver_state.specs.Shown.{showingFrame, Stands}
+use Rattle.verdicts.specs.Table.{upTo}
+use Rattle.verdicts.specs.Finished.{finished}
+use Rattle.verdicts.specs.FrameLaws.{GoodVerdict, OneHigher, registerOf}
+use Rattle.channel_b.specs.TakeBit.{Waits}
 use Rattle.guarantees.specs.Calls.{CallResult, result}
 
 -- ---- as a whole
@@ -40,7 +42,7 @@ withCorrection clean =
     withClocked
     (record {
       core = withErrors (errors (cond (eqb (shown .verdict) 3) 0 (upTo 65535 (core .errors .single))) (core .errors .double) (core .errors .status5)) core;
-      outputs = shows (shown .verdict) 1 (shown .word) shown;
+      outputs = showingFrame (shown .verdict) 1 (shown .word) shown;
     })
     clean
 
@@ -53,7 +55,7 @@ withDoubleError idle =
     withClocked
     (record {
       core = withErrors (errors (core .errors .single) (upTo 255 (core .errors .double)) 1) core;
-      outputs = shows 8 (shown .corrected) (shown .word) shown;
+      outputs = showingFrame 8 (shown .corrected) (shown .word) shown;
     })
     idle
 
@@ -79,20 +81,52 @@ abbrev pub EffectOf : Kind → Fields → ℕ → Core → Core → Type 0
 EffectOf Short fields verdict idle after = ShortEffect fields idle after
 EffectOf Long fields verdict idle after = LongEffect fields verdict idle after
 
--- "the rest of .. state is the idle list's": of the core, what the row of that verdict does not change; status bit 5 is `status-1`
-pub record RestAsIdle (verdict : ℕ) (idle after : Core) : Type 0 where
-  pub ids-same : after .ids ≡ idle .ids
-  pub settings-same : verdict ≢ 2 → verdict ≢ 3 → after .settings ≡ idle .settings
-  pub single-same : verdict ≢ 3 → after .errors .single ≡ idle .errors .single
-  pub double-same : verdict ≢ 3 → after .errors .double ≡ idle .errors .double
-  pub counters-same : verdict ≢ 1 → verdict ≢ 3 → after .counters ≡ idle .counters
-  pub sequence-same : verdict ≢ 3 → after .sequence ≡ idle .sequence
+-- ---- all other parts the same
 
--- of two results: trigger output, missed flag and bus; refusal and byte
-pub record OtherOutputsSame (one other : CallResult) : Type 0 where
+-- which parts of the core a frame may change; each is a condition, `⊥` for never
+pub record MayChange : Type 1 where
+  pub settings : Type 0
+  pub single : Type 0
+  pub double : Type 0
+  pub status : Type 0
+  pub counters : Type 0
+  pub sequence : Type 0
+
+-- of two results, all parts but verdict, corrected flag and word are the same, save those that may change
+pub record OthersSame (may : MayChange) (one other : CallResult) : Type 0 where
   pub refusal-same : other .answer .refusal ≡ one .answer .refusal
   pub outputs-stand : Stands (other .answer .outputs) (one .answer .outputs)
   pub byte-same : other .answer .byte ≡ one .answer .byte
+  pub ids-same : other .receiver .core .ids ≡ one .receiver .core .ids
+  pub settings-same : (may .settings → ⊥) → other .receiver .core .settings ≡ one .receiver .core .settings
+  pub single-same : (may .single → ⊥) → other .receiver .core .errors .single ≡ one .receiver .core .errors .single
+  pub double-same : (may .double → ⊥) → other .receiver .core .errors .double ≡ one .receiver .core .errors .double
+  pub status-same : (may .status → ⊥) → other .receiver .core .errors .status5 ≡ one .receiver .core .errors .status5
+  pub counters-same : (may .counters → ⊥) → other .receiver .core .counters ≡ one .receiver .core .counters
+  pub sequence-same : (may .sequence → ⊥) → other .receiver .core .sequence ≡ one .receiver .core .sequence
+  pub held-same : other .receiver .held ≡ one .receiver .held
+
+-- a clean frame: what the row of its verdict changes, by verdict 1, 2 or 3; and status bit 5
+abbrev pub rowMayChange : ℕ → MayChange
+rowMayChange verdict =
+    record {
+      settings = (verdict ≡ 2) ⊎ (verdict ≡ 3);
+      single = verdict ≡ 3;
+      double = verdict ≡ 3;
+      status = Unit {0};
+      counters = (verdict ≡ 1) ⊎ (verdict ≡ 3);
+      sequence = verdict ≡ 3;
+    }
+
+-- a corrected frame beside the clean one: the single error counter
+abbrev pub correctionMayChange : MayChange
+correctionMayChange = record { settings = ⊥; single = Unit {0}; double = ⊥; status = ⊥; counters = ⊥; sequence = ⊥ }
+
+-- a frame that can't be corrected beside the idle list: the double error counter, and status bit 5
+abbrev pub doubleErrorMayChange : MayChange
+doubleErrorMayChange = record { settings = ⊥; single = ⊥; double = Unit {0}; status = Unit {0}; counters = ⊥; sequence = ⊥ }
+
+-- ---- the last clock, by name
 
 -- "On the last clock a clean frame has verdict and effect of the table's row for its fields .., its 8 data or 32 word bits as the word, flag 0, and
 -- status bit 5 becomes 1; the rest of outputs and state is the idle list's." `own` are the receiver's IDs.
@@ -106,9 +140,8 @@ pub record CleanLast (kind : Kind) (fields : Fields) (own : Ids) (idle done : Ca
   pub reset-is-fresh : done .answer .outputs .verdict ≡ 3 → done .receiver ≡ freshState own
   pub status-1 : done .receiver .core .errors .status5 ≡ 1
   pub waits : Waits (done .receiver)
-  pub other-outputs : OtherOutputsSame idle done
-  pub other-state : RestAsIdle (done .answer .outputs .verdict) (idle .receiver .core) (done .receiver .core)
-  pub held-same : done .receiver .held ≡ idle .receiver .held
+  -- "the rest of outputs and state is the idle list's"
+  pub others-same : OthersSame (rowMayChange (done .answer .outputs .verdict)) idle done
 
 -- one protected bit flipped: "state and outputs after that clock are those of the clean frame, apart from the corrected flag and the single error
 -- counter (one higher unless full, or cleared by RESET)"
@@ -118,14 +151,7 @@ pub record CorrectedLast (clean done : CallResult) : Type 0 where
   pub single-cleared : clean .answer .outputs .verdict ≡ 3 → done .receiver .core .errors .single ≡ 0
   pub verdict-same : done .answer .outputs .verdict ≡ clean .answer .outputs .verdict
   pub word-same : done .answer .outputs .word ≡ clean .answer .outputs .word
-  pub other-outputs : OtherOutputsSame clean done
-  pub ids-same : done .receiver .core .ids ≡ clean .receiver .core .ids
-  pub settings-same : done .receiver .core .settings ≡ clean .receiver .core .settings
-  pub double-same : done .receiver .core .errors .double ≡ clean .receiver .core .errors .double
-  pub status-same : done .receiver .core .errors .status5 ≡ clean .receiver .core .errors .status5
-  pub counters-same : done .receiver .core .counters ≡ clean .receiver .core .counters
-  pub sequence-same : done .receiver .core .sequence ≡ clean .receiver .core .sequence
-  pub held-same : done .receiver .held ≡ clean .receiver .held
+  pub others-same : OthersSame correctionMayChange clean done
   pub waits : Waits (done .receiver)
 
 -- two flipped: "With two flips all outputs but the verdict are the idle list's."
@@ -135,13 +161,7 @@ pub record UncorrectableLast (idle done : CallResult) : Type 0 where
   pub no-flag : done .answer .outputs .corrected ≡ 0
   pub word-same : done .answer .outputs .word ≡ idle .answer .outputs .word
   pub no-word : done .answer .outputs .word ≡ 0
-  pub other-outputs : OtherOutputsSame idle done
   pub double-higher : OneHigher 255 (idle .receiver .core .errors .double) (done .receiver .core .errors .double)
   pub status-1 : done .receiver .core .errors .status5 ≡ 1
-  pub ids-same : done .receiver .core .ids ≡ idle .receiver .core .ids
-  pub settings-same : done .receiver .core .settings ≡ idle .receiver .core .settings
-  pub single-same : done .receiver .core .errors .single ≡ idle .receiver .core .errors .single
-  pub counters-same : done .receiver .core .counters ≡ idle .receiver .core .counters
-  pub sequence-same : done .receiver .core .sequence ≡ idle .receiver .core .sequence
-  pub held-same : done .receiver .held ≡ idle .receiver .held
+  pub others-same : OthersSame doubleErrorMayChange idle done
   pub waits : Waits (done .receiver)

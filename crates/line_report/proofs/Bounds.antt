@@ -5,43 +5,46 @@ use Prim.Native.Nat.{ℕ, _+_, _^_, _≤_, _<_}
 use native.Mathlib.Omega.{arith}
 use lib.Dec.{eqb, ltb, lit<}
 use lib.ListN.{length, take, length-append}
-use Rattle.laws.proofs.Rules.{picked}
+use borrow.Author.Tests.{ltb-true}
+use Rattle.laws.proofs.Rules.{picked, picked-by}
 use Rattle.frame.specs.declared.Kind.{Kind}
 use Rattle.frame.specs.declared.Kind.the-variants.{Short, Long}
-use Rattle.frame.specs.declared.Answer.{Answer}
 use Rattle.frame.specs.declared.Judged.{Judged}
 use Rattle.frame.specs.declared.Judged.the-variants.{StopZero, Uncorrectable, FixedZero, Good}
 use Rattle.frame.specs.Numbers.{frameBits, isFrame}
-use Rattle.frame.specs.Decode.{judged, answerTo}
+use Rattle.frame.specs.Bits.{bitsOf}
+use Rattle.frame.specs.Decode.{judged, answerTo, finishedAnswer}
 use Rattle.receiver_state.specs.declared.Receiver.{Receiver}
 use Rattle.receiver_state.specs.declared.Core.{Core}
 use Rattle.receiver_state.specs.WellFormed.{wellFormed}
-use Rattle.fate.specs.declared.Outputs.{Outputs}
-use Rattle.fate.specs.declared.Row.{Row}
-use Rattle.fate.specs.Fate.{isShort, foreign, countErrors, finishedAnswer, fate, finished}
+use Rattle.receiver_state.specs.declared.Outputs.{Outputs}
+use Rattle.receiver_state.specs.Shown.{noOutputs}
+use Rattle.verdicts.specs.Table.{largestVerdict}
+use Rattle.verdicts.specs.Finished.{finished}
+use Rattle.verdicts.proofs.Laws.{not-larger}
 use Rattle.receiver.specs.declared.ClockAnswer.{ClockAnswer}
-use Rattle.receiver.specs.declared.Taken.{Taken}
-use Rattle.receiver.specs.declared.Taken.the-variants.{Unfinished, Finished}
-use Rattle.receiver.specs.TakeBit.{takeBit}
-use Rattle.receiver.specs.IdleClock.{idleClock}
+use Rattle.channel_b.specs.declared.Taken.{Taken}
+use Rattle.channel_b.specs.declared.Taken.the-variants.{Unfinished, Finished}
+use Rattle.channel_b.specs.TakeBit.{takeBit}
+use Rattle.idle_clock.specs.IdleClock.{idleClock}
 use Rattle.receiver.specs.Clock.{applyFrame, stepAnswer, refusedClock, clockAnswer}
-use Rattle.whole_frame.specs.WholeFrame.{bitsOf, clocksAnswer, noClock, receiveAnswer}
+use Rattle.whole_frame.specs.WholeFrame.{clocksAnswer, noClock, receiveAnswer}
 use Rattle.stored_line.specs.declared.StoredLine.{StoredLine}
 use Rattle.stored_line.specs.declared.StoredLine.the-variants.{Frame, Refused}
 use Rattle.stored_line.proofs.Digits.{length-digits}
 use Rattle.stored_line.proofs.Refusals.{RefusalSmall, refusal-small}
 use Rattle.line_report.specs.declared.LinePart.{LinePart}
-use Rattle.line_report.specs.Text.{decimal, wordDigits, wordText, fateText, refusalText, answerText, lineText, countsText, endText}
+use Rattle.line_report.specs.Text.{decimal, wordDigits, wordText, verdictText, refusalText, answerText, lineText, countsText, endText}
 use Rattle.line_report.specs.Output.{feedLine, nextLine, linePrints}
 use Rattle.line_report.specs.declared.Report.{Report}
 use Rattle.line_report.specs.Write.{TextAt}
-use Rattle.line_report.specs.Report.{readPart, longestLine, lastPrints}
+use Rattle.line_report.specs.Report.{readPart, digitsOf, longestAnswer, longestLine, lastPrints}
 use Rattle.line_report.proofs.Decimal.{one-digit, few-digits, twenty-digits}
 
--- ---- verdict and flag have one digit, a refusal at most three
+-- ---- no verdict is larger than the largest, the flag has one digit, a refusal at most three
 
 record Shown (shown : Outputs) : Type 0 where
-  verdict-below : shown .verdict < 10
+  verdict-most : shown .verdict ≤ largestVerdict
   flag-below : shown .corrected < 10
 
 record Small (answer : ClockAnswer) : Type 0 where
@@ -54,32 +57,20 @@ flag-small kind Uncorrectable = lit< tt
 flag-small kind (FixedZero word) = lit< tt
 flag-small kind (Good word flag wrong) = picked (λ (n : ℕ). n < 10) flag (lit< tt) (lit< tt)
 
-abbrev VerdictBelow : Row → Type 0
-VerdictBelow row = row .verdict < 10
-
-row-small : (kind : Kind) (frame : Answer) (core : Core) → VerdictBelow (fate kind frame core)
-unfolding fate
-row-small kind frame core =
-    picked VerdictBelow (eqb (frame .verdict) 7) (lit< tt)
-    (picked VerdictBelow (eqb (frame .verdict) 8) (lit< tt)
-    (picked VerdictBelow (eqb (frame .verdict) 9) (lit< tt)
-    (picked VerdictBelow (isShort kind) (lit< tt)
-    (picked VerdictBelow (foreign (frame .fields .address) (core .ids .id)) (lit< tt)
-    (picked VerdictBelow (eqb (frame .fields .e) 1) (lit< tt)
-    (picked VerdictBelow (ltb (frame .fields .sub) 4) (lit< tt)
-    (picked VerdictBelow (eqb (frame .fields .sub) 6) (lit< tt) (lit< tt))))))))
+nothing-shown : Shown noOutputs
+nothing-shown = record { verdict-most = omega arith; flag-below = lit< tt }
 
 applied-small : (columns : Kind → List ℕ) (taken : Taken) (core : Core) (trigger : ℕ) → Shown (applyFrame columns taken (idleClock core trigger) .outputs)
 unfolding finished finishedAnswer idleClock
-applied-small columns (Unfinished held) core trigger = record { verdict-below = lit< tt; flag-below = lit< tt }
+applied-small columns (Unfinished held) core trigger = record { verdict-most = omega arith; flag-below = lit< tt }
 applied-small columns (Finished kind number) core trigger =
     record {
-      verdict-below = row-small kind (finishedAnswer columns kind number) (countErrors (finishedAnswer columns kind number) (idleClock core trigger .core));
+      verdict-most = not-larger columns kind number (idleClock core trigger);
       flag-below = flag-small kind (judged (columns kind) kind number);
     }
 
 refused-small : (refusal : ℕ) (r : Receiver) → refusal < 1000 → Small (refusedClock refusal r)
-refused-small refusal r h = record { refusal-below = h; outputs-small = record { verdict-below = lit< tt; flag-below = lit< tt } }
+refused-small refusal r h = record { refusal-below = h; outputs-small = nothing-shown }
 
 clock-small : (columns : Kind → List ℕ) (r : Receiver) (trigger bit : ℕ) → Small (clockAnswer columns r trigger bit)
 unfolding clockAnswer stepAnswer
@@ -119,23 +110,33 @@ word-length digits shown h =
     picked AtMost8 (eqb (shown .verdict) 7) (omega arith)
     (picked AtMost8 (eqb (shown .verdict) 8) (omega arith) (omega (arith, length-digits digits (shown .word))))
 
-fate-length : (digits : ℕ) (shown : Outputs) → digits ≤ 8 → Shown shown → length (fateText digits shown) ≤ 12
-unfolding fateText
-fate-length digits shown h s =
-    let verdict = ap length (one-digit (shown .verdict) (s .verdict-below)) in
+-- a number that is no larger has no more digits
+digits-most : (n most : ℕ) → n ≤ most → most < 1000 → length (decimal n) ≤ digitsOf most
+digits-most n most h few =
+    picked-by Enough (ltb most 10) (λ t. let below : most < 10 = ltb-true most 10 t in few-digits 0 n (omega arith) (omega arith))
+    (λ t. picked-by Enough (ltb most 100) (λ u. let below : most < 100 = ltb-true most 100 u in few-digits 1 n (omega arith) (omega arith))
+    (λ u. few-digits 2 n (omega arith) (omega arith)))
+  where
+    Enough : ℕ → Type 0
+    Enough digits = length (decimal n) ≤ digits
+
+verdict-length : (digits : ℕ) (shown : Outputs) → digits ≤ 8 → Shown shown → length (verdictText digits shown) ≤ longestAnswer
+unfolding verdictText
+verdict-length digits shown h s =
+    let verdict = digits-most (shown .verdict) largestVerdict (s .verdict-most) (lit< tt) in
     let flag = ap length (one-digit (shown .corrected) (s .flag-below)) in
     let behind = length-append (32 ∷ decimal (shown .corrected)) (32 ∷ wordText digits shown) in
     let all = length-append (decimal (shown .verdict)) ((32 ∷ decimal (shown .corrected)) ++ (32 ∷ wordText digits shown)) in
     omega (arith, word-length digits shown h)
 
-refusal-length : (refusal : ℕ) → refusal < 1000 → length (refusalText refusal) ≤ 12
+refusal-length : (refusal : ℕ) → refusal < 1000 → length (refusalText refusal) ≤ longestAnswer
 unfolding refusalText
 refusal-length refusal h = omega (arith, few-digits 2 refusal h (omega arith))
 
-answer-length : (digits : ℕ) (answer : ClockAnswer) → digits ≤ 8 → Small answer → length (answerText digits answer) ≤ 12
+answer-length : (digits : ℕ) (answer : ClockAnswer) → digits ≤ 8 → Small answer → length (answerText digits answer) ≤ longestAnswer
 unfolding answerText
 answer-length digits answer h s =
-    picked (λ (text : List ℕ). length text ≤ 12) (eqb (answer .refusal) 0) (fate-length digits (answer .outputs) h (s .outputs-small))
+    picked (λ (text : List ℕ). length text ≤ longestAnswer) (eqb (answer .refusal) 0) (verdict-length digits (answer .outputs) h (s .outputs-small))
     (refusal-length (answer .refusal) (s .refusal-below))
 
 digits-small : (line : StoredLine) → wordDigits line ≤ 8

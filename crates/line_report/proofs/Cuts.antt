@@ -19,9 +19,9 @@ use Rattle.line_report.specs.declared.LinePart.{LinePart}
 use Rattle.line_report.specs.declared.Report.{Report}
 use Rattle.line_report.specs.Text.{coreEndText}
 use Rattle.line_report.specs.Output.{lastLine, linesAfter, feedLine, nextLine, linePrints, linesPrint, linesLeave, outputOf}
-use Rattle.line_report.specs.Report.{noCharacters, emptyPart, withCharacter, readPart, report, startReport, lineEnded, lineEndPrints, afterByte, bytePrints, afterBytes, bytesPrint, longestLine, Work, work, behind, workOn, filled, filledBy, reportInput, longestEnd, afterLast, lastPrints, endPrints, endWork, reportEnd}
+use Rattle.line_report.specs.Report.{noCharacters, emptyPart, withCharacter, readPart, report, startReport, lineEnded, lineEndPrints, afterByte, bytePrints, afterBytes, bytesPrint, longestLine, Work, work, behind, workOn, reportDone, doneBy, reportInput, longestEnd, afterLast, lastPrints, endPrints, endWork, reportEnd}
 use Rattle.line_report.specs.Cuts.{Offer, writtenBy, offered, reportAll, GoodOffers, Piece, inputOf, offersOf, RoomForAll, CutsTheorem, ReportCuts, LongestReached}
-use Rattle.fate.specs.Fate.{columnsOf}
+use Rattle.frame.specs.Columns.{columnsOf}
 use Rattle.line_report.proofs.LineSoFar.{Kept, Dropped, Holds, none-yet, holds-one, holds-read}
 use Rattle.line_report.proofs.Work.{no-room, byte-fits}
 
@@ -97,7 +97,7 @@ module _ (columns : Kind → List ℕ) where
       rw (le-ltb room longestLine enough)
       (ap suc (room-for-all (room - length text) (afterByte columns now byte) bytes (omega (arith, byte-fits columns now byte))))
 
-  written-is : (w : Work) (buffer : List ℕ) → writtenBy (filledBy w buffer) ≡ w .text
+  written-is : (w : Work) (buffer : List ℕ) → writtenBy (doneBy w buffer) ≡ w .text
   written-is w buffer = take-append-seam (w .text) (drop (length (w .text)) buffer)
 
   -- ---- a list of calls
@@ -353,13 +353,13 @@ pub cuts-theorem : CutsTheorem
 cuts-theorem columns =
     record {
       no-longer = byte-fits columns;
-      small-buffer = λ now input buffer h. ap (λ (w : Work). filledBy w buffer) (no-room columns (length buffer) now input h);
+      small-buffer = λ now input buffer h. ap (λ (w : Work). doneBy w buffer) (no-room columns (length buffer) now input h);
       goes-on = λ now input buffer some h. uses-one columns (length buffer) now input some h;
       all-or-full = λ now input buffer. all-or-no-room columns (length buffer) now input;
       enough-room = λ now input buffer h. room-for-all columns (length buffer) now input h;
       same-text = λ now input offers. calls-done columns now input offers .text-is;
       same-report = λ now input offers. calls-done columns now input offers .report-is;
-      small-end = λ now buffer h. ap (λ (w : Work). filledBy w buffer) (small-end columns now buffer h);
+      small-end = λ now buffer h. ap (λ (w : Work). doneBy w buffer) (small-end columns now buffer h);
       used-up = calls-use-all columns;
       pieces-used-up = pieces-used columns;
       whole-output = whole columns;

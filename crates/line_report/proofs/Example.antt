@@ -1,8 +1,8 @@
 -- The example of `ttclines`, computed line by line: a frame is taken at once, by the law of whole frames. Assumes nothing.
-use mathlib.Core.Path.{_≡_, refl, sym, ap, _∙_}
+use mathlib.Core.Path.{_≡_, refl, sym, ap, ap₂, _∙_}
 use mathlib.Core.Bool.{Bool, true, not, _&&_}
 use mathlib.Core.List.{List, [], _∷_, _++_, append-nil, append-assoc}
-use Prim.Native.Nat.{ℕ, _+_, _%_}
+use Prim.Native.Nat.{ℕ}
 use borrow.Author.Tests.{not-true}
 use lib.Dec.{eqb}
 use lib.Count.{ones}
@@ -13,26 +13,30 @@ use Rattle.hamming.specs.Code.{checkNumber, syndrome, firstFrom, bySyndrome, de
 use Rattle.frame.specs.declared.Kind.{Kind}
 use Rattle.frame.specs.declared.Kind.the-variants.{Short, Long}
 use Rattle.frame.specs.Numbers.{frameBits, isFrame}
-use Rattle.frame.specs.Decode.{judged}
+use Rattle.frame.specs.Columns.{columnsOf}
+use Rattle.frame.specs.Decode.{judged, finishedAnswer}
 use Rattle.receiver_state.specs.declared.Core.{Core}
 use Rattle.receiver_state.specs.declared.Receiver.{Receiver}
 use Rattle.receiver_state.specs.State.{ids, errors, counters, noSequence, nothingHeld, receiver}
 use Rattle.receiver_state.specs.WellFormed.{idsOk, settingsOk, countersOk, sequenceOk, coreOk, heldOk, wellFormed}
-use Rattle.fate.specs.declared.Outputs.{Outputs}
-use Rattle.fate.specs.declared.Clocked.{Clocked}
-use Rattle.fate.specs.Fate.{columnsOf, upTo, doubleUp, cleared, stored, foreign, fate, countErrors, shows, finished, finishedAnswer}
-use Rattle.fate.specs.Laws.{finishedBy}
+use Rattle.receiver_state.specs.declared.Outputs.{Outputs}
+use Rattle.receiver_state.specs.declared.Clocked.{Clocked}
+use Rattle.receiver_state.specs.Shown.{noOutputs, showingFrame}
+use Rattle.register_map.specs.Change.{stored}
+use Rattle.idle_clock.specs.AtRest.{restFor}
+use Rattle.channel_b.specs.TakeBit.{heldAfter}
+use Rattle.channel_b.proofs.Laws.{waits-none}
+use Rattle.verdicts.specs.Table.{upTo, doubleUp, clearedBy, foreign, longRow, tableRow}
+use Rattle.verdicts.specs.Finished.{countErrors, finished, finishedBy}
 use Rattle.receiver.specs.declared.ClockAnswer.{ClockAnswer}
-use Rattle.receiver.specs.TakeBit.{Waits}
-use Rattle.receiver.specs.Clock.{noOutputs, clockedAnswer, refusedClock}
-use Rattle.receiver.proofs.Bits.{bit-law}
-use Rattle.whole_frame.specs.WholeFrame.{stillClocked}
+use Rattle.receiver.specs.Clock.{clockedAnswer, refusedClock}
+use Rattle.whole_frame.specs.WholeFrame.{settledClock}
 use Rattle.whole_frame.proofs.WholeFrameLaw.{receiver-whole-frames}
 use Rattle.stored_line.specs.declared.StoredLine.{StoredLine}
 use Rattle.stored_line.specs.declared.StoredLine.the-variants.{Frame, Refused}
 use Rattle.stored_line.specs.Digits.{digitValue, allDigits, hexNumber, hexAnswer, digitCharacter, hexDigits}
 use Rattle.stored_line.specs.Read.{readLine}
-use Rattle.line_report.specs.Text.{decimalUpTo, decimal, kindDigits, wordDigits, wordText, fateText, refusalText, answerText, lineText, countsText, endText}
+use Rattle.line_report.specs.Text.{decimalUpTo, decimal, kindDigits, wordDigits, wordText, verdictText, refusalText, answerText, lineText, countsText, endText}
 use Rattle.line_report.specs.Output.{linesAfter, feedLine, nextLine, linesPrint, outputOf}
 use Rattle.line_report.specs.Example.{endedLines, line1, line2, line3, line4, line5, line6, line7, line8, exampleLines, text1, text2, text3, text4, text5, text6, text7, text8, text9, ExampleOutput}
 
@@ -85,7 +89,8 @@ record FrameLine (core : Core) (lines : ℕ) (characters : List ℕ) (kind : Kin
   reads : readLine characters ≡ Frame kind number
   is-frame : isFrame kind number ≡ true
   well-formed : wellFormed (waiting core) ≡ true
-  done : finishedBy columnsOf kind number (stillClocked ((core .counters .bunch + frameBits kind) % 4096) core) ≡ clocked after shown
+  done : finishedBy columnsOf kind number (settledClock (frameBits kind) core) ≡ clocked after shown
+  waits : heldAfter kind number ≡ nothingHeld
   prints : lineText (nextLine lines) (kindDigits kind) (clockedAnswer nothingHeld (clocked after shown)) ≡ text ++ (10 ∷ [])
 
 frame-line : {core : Core} {lines : ℕ} {characters : List ℕ} {kind : Kind} {number : ℕ} {after : Core} {shown : Outputs} {text : List ℕ}
@@ -94,11 +99,8 @@ frame-line : {core : Core} {lines : ℕ} {characters : List ℕ} {kind : Kind} {
 frame-line {core} {lines} {characters} {kind} {number} {after} {shown} l rest =
     let answer = clockedAnswer nothingHeld (clocked after shown) in
     line-answer (waiting core) lines characters rest (Frame kind number) answer (l .reads)
-    (receiver-whole-frames .has-its-fate (waiting core) kind number (l .well-formed) waits (l .is-frame) ∙ ap (clockedAnswer nothingHeld) (l .done))
+    (receiver-whole-frames .sent-frame-finishes (waiting core) kind number (l .well-formed) (waits-none core) (l .is-frame) ∙ ap₂ clockedAnswer (l .waits) (l .done))
     ∙ ap (λ (t : List ℕ). t ++ linesPrint columnsOf (waiting after) (nextLine lines) rest) (l .prints)
-  where
-    waits : Waits (waiting core)
-    waits = record { none-held = refl; start-next = bit-law .start-bit }
 
 -- ---- the eight lines
 
@@ -115,7 +117,7 @@ having coarse single double status5 bunch =
 
 -- verdict, corrected flag, word
 abbrev showing : ℕ → ℕ → ℕ → Outputs
-showing verdict corrected word = shows verdict corrected word noOutputs
+showing verdict corrected word = showingFrame verdict corrected word noOutputs
 
 record EightLines : Type 0 where
   first : FrameLine (having 0 0 0 1 0) 0 line1 Short 0x004F (having 0 0 0 1 0) (showing 1 0 0x01) text1
@@ -130,16 +132,16 @@ record EightLines : Type 0 where
   end-prints : linesPrint columnsOf (waiting (having 0x35 2 2 1 174)) 8 [] ≡ text9 ++ (10 ∷ [])
 
 eight-lines : EightLines
-unfolding ones lowestOne every checkNumber syndrome firstFrom bySyndrome decodeWord isFrame judged idsOk settingsOk countersOk sequenceOk coreOk heldOk wellFormed upTo doubleUp cleared stored foreign fate countErrors finished finishedAnswer digitValue allDigits hexNumber hexAnswer digitCharacter hexDigits readLine decimalUpTo decimal wordText fateText refusalText answerText lineText countsText endText linesPrint
+unfolding ones lowestOne every checkNumber syndrome firstFrom bySyndrome decodeWord isFrame judged idsOk settingsOk countersOk sequenceOk coreOk heldOk wellFormed upTo doubleUp clearedBy stored foreign longRow tableRow countErrors finished finishedAnswer heldAfter restFor digitValue allDigits hexNumber hexAnswer digitCharacter hexDigits readLine decimalUpTo decimal wordText verdictText refusalText answerText lineText countsText endText linesPrint
 eight-lines =
     record {
-      first = record { reads = refl; is-frame = refl; well-formed = refl; done = refl; prints = refl };
-      second = record { reads = refl; is-frame = refl; well-formed = refl; done = refl; prints = refl };
-      third = record { reads = refl; is-frame = refl; well-formed = refl; done = refl; prints = refl };
-      fourth = record { reads = refl; is-frame = refl; well-formed = refl; done = refl; prints = refl };
-      fifth = record { reads = refl; is-frame = refl; well-formed = refl; done = refl; prints = refl };
-      sixth = record { reads = refl; is-frame = refl; well-formed = refl; done = refl; prints = refl };
-      seventh = record { reads = refl; is-frame = refl; well-formed = refl; done = refl; prints = refl };
+      first = record { reads = refl; is-frame = refl; well-formed = refl; done = refl; waits = refl; prints = refl };
+      second = record { reads = refl; is-frame = refl; well-formed = refl; done = refl; waits = refl; prints = refl };
+      third = record { reads = refl; is-frame = refl; well-formed = refl; done = refl; waits = refl; prints = refl };
+      fourth = record { reads = refl; is-frame = refl; well-formed = refl; done = refl; waits = refl; prints = refl };
+      fifth = record { reads = refl; is-frame = refl; well-formed = refl; done = refl; waits = refl; prints = refl };
+      sixth = record { reads = refl; is-frame = refl; well-formed = refl; done = refl; waits = refl; prints = refl };
+      seventh = record { reads = refl; is-frame = refl; well-formed = refl; done = refl; waits = refl; prints = refl };
       eighth-reads = refl;
       eighth-prints = refl;
       end-prints = refl;

@@ -4,19 +4,23 @@ use Rattle.laws.specs.Tests.{every}
 use Rattle.laws.specs.LowestOne.{lowestOne}
 use Rattle.hamming.specs.Code.{checkNumber, syndrome, firstFrom, bySyndrome, decodeWord}
 use Rattle.frame.specs.Numbers.{isFrame}
-use Rattle.frame.specs.Decode.{judged}
+use Rattle.frame.specs.Bits.{bitsOf}
+use Rattle.frame.specs.Decode.{judged, finishedAnswer}
+use Rattle.receiver_state.specs.State.{isWaiting}
 use Rattle.receiver_state.specs.WellFormed.{idsOk, settingsOk, countersOk, sequenceOk, coreOk, heldOk, wellFormed}
-use Rattle.fate.specs.Fate.{upTo, doubleUp, cleared, stored, foreign, fate, countErrors, finished, finishedAnswer}
-use Rattle.receiver.specs.TakeBit.{frameOrPart, takeBit}
-use Rattle.receiver.specs.IdleClock.{countClock, continued, started, busStep, idleClock}
+use Rattle.register_map.specs.Change.{stored}
+use Rattle.verdicts.specs.Table.{upTo, doubleUp, clearedBy, foreign, longRow, tableRow}
+use Rattle.verdicts.specs.Finished.{countErrors, finished}
+use Rattle.channel_b.specs.TakeBit.{frameOrPart, takeBit, heldAfter}
+use Rattle.idle_clock.specs.IdleClock.{countClock, continued, started, busStep, idleClock}
 use Rattle.receiver.specs.Clock.{stepAnswer, clockAnswer}
-use Rattle.whole_frame.specs.WholeFrame.{bitsOf, clocksAnswer, receiveAnswer}
+use Rattle.whole_frame.specs.WholeFrame.{clocksAnswer, receiveAnswer}
 use Rattle.stored_line.specs.Digits.{digitValue, allDigits, hexNumber, hexAnswer, digitCharacter, hexDigits}
 use Rattle.stored_line.specs.Read.{readLine}
-use Rattle.line_report.specs.Text.{decimalUpTo, decimal, wordText, fateText, refusalText, answerText, lineText}
+use Rattle.line_report.specs.Text.{decimalUpTo, decimal, wordText, verdictText, refusalText, answerText, lineText}
 use Rattle.line_report.specs.Report.{readPart, bytePrints}
 use Rattle.line_report.specs.Cuts.{LongestReached}
 
 pub longest-reached : LongestReached
-unfolding every lowestOne checkNumber syndrome firstFrom bySyndrome decodeWord isFrame judged idsOk settingsOk countersOk sequenceOk coreOk heldOk wellFormed upTo doubleUp cleared stored foreign fate countErrors finished finishedAnswer frameOrPart takeBit countClock continued started busStep idleClock stepAnswer clockAnswer bitsOf clocksAnswer receiveAnswer digitValue allDigits hexNumber hexAnswer digitCharacter hexDigits readLine decimalUpTo decimal wordText fateText refusalText answerText lineText readPart bytePrints
+unfolding every lowestOne checkNumber syndrome firstFrom bySyndrome decodeWord isFrame judged idsOk settingsOk countersOk sequenceOk coreOk heldOk wellFormed upTo doubleUp clearedBy stored foreign longRow tableRow countErrors finished finishedAnswer isWaiting frameOrPart takeBit heldAfter countClock continued started busStep idleClock stepAnswer clockAnswer bitsOf clocksAnswer receiveAnswer digitValue allDigits hexNumber hexAnswer digitCharacter hexDigits readLine decimalUpTo decimal wordText verdictText refusalText answerText lineText readPart bytePrints
 longest-reached = refl

@@ -18,7 +18,7 @@ use Rattle.line_report.specs.declared.Report.{Report}
 use Rattle.line_report.specs.declared.Reported.{Reported}
 use Rattle.line_report.specs.Text.{coreEndText}
 use Rattle.line_report.specs.Write.{TextAt}
-use Rattle.line_report.specs.Report.{report, withCharacters, readPart, lineEnded, lineEndPrints, untilFeed, longestLine, Work, work, workOn, filled, filledBy, reportInput, longestEnd, afterLast, lastPrints, endWork, reportEnd}
+use Rattle.line_report.specs.Report.{report, withCharacters, readPart, lineEnded, lineEndPrints, untilFeed, longestLine, Work, work, workOn, reportDone, doneBy, reportInput, longestEnd, afterLast, lastPrints, endWork, reportEnd}
 use Rattle.line_report.specs.Turn.{placed, finishedFrom, Turned}
 use Rattle.laws.proofs.Sets.{sets-append, sets-front}
 use Rattle.line_report.proofs.Write.{then-text, kept-length}
@@ -34,9 +34,9 @@ until-le [] = omega arith
 until-le (byte ∷ bytes) = picked (λ (n : ℕ). n ≤ suc (length bytes)) (eqb byte 10) (omega arith) (let rest = until-le bytes in omega arith)
 
 -- nothing more is done
-placed-nothing : (now : Report) (used written : ℕ) (buffer : List ℕ) → placed used written buffer (work now 0 []) ≡ filled (reported now used written) buffer
+placed-nothing : (now : Report) (used written : ℕ) (buffer : List ℕ) → placed used written buffer (work now 0 []) ≡ reportDone (reported now used written) buffer
 placed-nothing now used written buffer =
-    ap₂ (λ (u w : ℕ). filled (reported now u w) buffer) (add-zero used) (add-zero written)
+    ap₂ (λ (u w : ℕ). reportDone (reported now u w) buffer) (add-zero used) (add-zero written)
 
 -- a text, and what is placed behind it
 placed-behind : (used written n : ℕ) (buffer text : List ℕ) (rest : Work)
@@ -45,8 +45,8 @@ placed-behind : (used written n : ℕ) (buffer text : List ℕ) (rest : Work)
 placed-behind used written n buffer text rest =
     let used-same : (used + suc n) + rest .used ≡ used + suc (n + rest .used) = omega arith in
     let written-same : (written + length text) + length (rest .text) ≡ written + length (text ++ rest .text) = omega (arith, length-append text (rest .text)) in
-    ap₂ (λ (u w : ℕ). filled (reported (rest .report) u w) (sets (sets buffer written text) (written + length text) (rest .text))) used-same written-same
-    ∙ ap (filled (reported (rest .report) (used + suc (n + rest .used)) (written + length (text ++ rest .text)))) (sym (sets-append text (rest .text) buffer written))
+    ap₂ (λ (u w : ℕ). reportDone (reported (rest .report) u w) (sets (sets buffer written text) (written + length text) (rest .text))) used-same written-same
+    ∙ ap (reportDone (reported (rest .report) (used + suc (n + rest .used)) (written + length (text ++ rest .text)))) (sym (sets-append text (rest .text) buffer written))
 
 all-used : (columns : Kind → List ℕ) (room : ℕ) (now : Report) (used : ℕ) (input : List ℕ) → length input ≤ used
     → workOn columns room now (drop used input) ≡ work now 0 []
@@ -77,7 +77,7 @@ module _ (columns : Kind → List ℕ) (before : Reported) (input buffer : List 
             ap (placed (length input) (before .written) buffer) (all-used columns room′ next (length input) input (omega arith))
             ∙ placed-nothing next (length input) (before .written) buffer
             ∙ sym (ap (placed (before .used) (before .written) buffer) (to-the-end columns room′ (before .report) restOf enough none)
-            ∙ ap₂ (λ (u w : ℕ). filled (reported next u w) buffer) size-of-rest (add-zero (before .written)));
+            ∙ ap₂ (λ (u w : ℕ). reportDone (reported next u w) buffer) size-of-rest (add-zero (before .written)));
         onward = some;
         within = omega arith;
         fits = omega arith;
@@ -156,16 +156,16 @@ module _ (columns : Kind → List ℕ) (now : Report) (input buffer : List ℕ) 
   all-to-do =
       let done = workOn columns (length buffer) now input in
       ap (λ (room : ℕ). placed 0 0 buffer (workOn columns room now input)) (sub-zero (length buffer))
-      ∙ ap₂ (λ (u w : ℕ). filled (reported (done .report) u w) (sets buffer 0 (done .text))) (zero-add (done .used)) (zero-add (length (done .text)))
-      ∙ ap (filled (reported (done .report) (done .used) (length (done .text)))) (sets-front (done .text) buffer (work-fits columns (length buffer) now input))
+      ∙ ap₂ (λ (u w : ℕ). reportDone (reported (done .report) u w) (sets buffer 0 (done .text))) (zero-add (done .used)) (zero-add (length (done .text)))
+      ∙ ap (reportDone (reported (done .report) (done .used) (length (done .text)))) (sets-front (done .text) buffer (work-fits columns (length buffer) now input))
 
   -- after the last one: the input is used up, or there is no room
-  pub used-up : (done : Reported) (buffer′ : List ℕ) → length input ≤ done .used → finishedFrom columns done input buffer′ ≡ filled done buffer′
+  pub used-up : (done : Reported) (buffer′ : List ℕ) → length input ≤ done .used → finishedFrom columns done input buffer′ ≡ reportDone done buffer′
   used-up done buffer′ h =
       ap (placed (done .used) (done .written) buffer′) (all-used columns (length buffer′ - done .written) (done .report) (done .used) input h)
       ∙ placed-nothing (done .report) (done .used) (done .written) buffer′
 
-  pub no-more-room : (done : Reported) (buffer′ : List ℕ) → length buffer′ - done .written < longestLine → finishedFrom columns done input buffer′ ≡ filled done buffer′
+  pub no-more-room : (done : Reported) (buffer′ : List ℕ) → length buffer′ - done .written < longestLine → finishedFrom columns done input buffer′ ≡ reportDone done buffer′
   no-more-room done buffer′ h =
       ap (placed (done .used) (done .written) buffer′) (no-room columns (length buffer′ - done .written) (done .report) (drop (done .used) input) h)
       ∙ placed-nothing (done .report) (done .used) (done .written) buffer′
@@ -183,12 +183,12 @@ written-below columns now room s below = omega (arith, s .next-is, last-length c
 pub all-ended : (columns : Kind → List ℕ) (now ended : Report) {buffer buffer₁ buffer₂ : List ℕ} {next written : ℕ} → longestEnd ≤ length buffer
     → ended ≡ afterLast columns now → TextAt next 0 (lastPrints columns now) buffer buffer₁
     → TextAt written next (coreEndText (ended .receiver .core)) buffer₁ buffer₂ → written ≤ next + 31
-    → filled (reported ended 0 written) buffer₂ ≡ reportEnd columns now buffer
+    → reportDone (reported ended 0 written) buffer₂ ≡ reportEnd columns now buffer
 unfolding endWork
 all-ended columns now ended {buffer} room e s t below =
     let both = then-text (lastPrints columns now) (coreEndText (ended .receiver .core)) s t in
     let text = lastPrints columns now ++ coreEndText (ended .receiver .core) in
     let fits : length text ≤ length buffer = omega (arith, both .next-is, s .next-is, last-length columns now) in
-    ap₂ (λ (w : ℕ) (b : List ℕ). filled (reported ended 0 w) b) (both .next-is ∙ zero-add (length text)) (both .stored ∙ sets-front text buffer fits)
-    ∙ ap (λ (r : Report). filledBy (work r 0 (lastPrints columns now ++ coreEndText (r .receiver .core))) buffer) e
+    ap₂ (λ (w : ℕ) (b : List ℕ). reportDone (reported ended 0 w) b) (both .next-is ∙ zero-add (length text)) (both .stored ∙ sets-front text buffer fits)
+    ∙ ap (λ (r : Report). doneBy (work r 0 (lastPrints columns now ++ coreEndText (r .receiver .core))) buffer) e
     ∙ rw (le-ltb (length buffer) longestEnd room) refl

@@ -7,7 +7,7 @@ use native.Mathlib.Omega.{arith}
 use borrow.Author.Tests.{ne-eqb, le-ltb}
 use lib.ListN.{length, take, drop, length-drop, drop-of-length-le}
 use lib.Seq.{take-all, drop-drop, sets-eq}
-use Rattle.fate.specs.declared.Outputs.{Outputs}
+use Rattle.receiver_state.specs.declared.Outputs.{Outputs}
 use Rattle.stored_line.specs.Digits.{hexDigits, hexWritten}
 use Rattle.stored_line.proofs.Digits.{length-digits}
 use Rattle.line_report.specs.Text.{wordText}

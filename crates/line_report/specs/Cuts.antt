@@ -6,10 +6,10 @@ use mathlib.Core.Logic.{_⊎_}
 use mathlib.Core.List.{List, [], _∷_, _++_}
 use lib.ListN.{length, take, drop}
 use Rattle.frame.specs.declared.Kind.{Kind}
-use Rattle.fate.specs.Fate.{columnsOf}
+use Rattle.frame.specs.Columns.{columnsOf}
 use Rattle.line_report.specs.declared.Report.{Report}
 use Rattle.line_report.specs.Output.{linesOf, linesLeave, ownReceiver, outputOf}
-use Rattle.line_report.specs.Report.{linePart, report, startReport, bytePrints, afterBytes, bytesPrint, longestLine, Work, work, Filled, filled, reportInput, longestEnd, reportEnd}
+use Rattle.line_report.specs.Report.{linePart, report, startReport, bytePrints, afterBytes, bytesPrint, longestLine, Work, work, ReportDone, reportDone, reportInput, longestEnd, reportEnd}
 
 -- ---- a list of calls
 
@@ -19,11 +19,11 @@ pub record Offer : Type 0 where
   pub buffer : List ℕ
 
 -- the bytes that a call wrote: the front of its buffer
-abbrev pub writtenBy : Filled → List ℕ
+abbrev pub writtenBy : ReportDone → List ℕ
 writtenBy done = take (done .answer .written) (done .buffer)
 
 module _ (columns : Kind → List ℕ) where
-  abbrev pub offered : Report → List ℕ → Offer → Filled
+  abbrev pub offered : Report → List ℕ → Offer → ReportDone
   offered now input offer = reportInput columns now (take (offer .count) input) (offer .buffer)
 
   -- calls of `report_input`, each with the report that the one before left and the input that is left: the last report, the bytes of input used in
@@ -64,7 +64,7 @@ pub record Cuts (columns : Kind → List ℕ) : Type 0 where
   pub no-longer : (now : Report) (byte : ℕ) → length (bytePrints columns now byte) ≤ longestLine
   -- a buffer too small for a line's text: no input is used and nothing is written
   pub small-buffer : (now : Report) (input buffer : List ℕ) → length buffer < longestLine
-      → reportInput columns now input buffer ≡ filled (record { report = now; used = 0; written = 0 }) buffer
+      → reportInput columns now input buffer ≡ reportDone (record { report = now; used = 0; written = 0 }) buffer
   -- otherwise some input is used, if there is any; and all of it, or else the buffer has no room for another line's text
   pub goes-on : (now : Report) (input buffer : List ℕ) → 1 ≤ length input → longestLine ≤ length buffer
       → 1 ≤ reportInput columns now input buffer .answer .used
@@ -80,7 +80,7 @@ pub record Cuts (columns : Kind → List ℕ) : Type 0 where
       all .report ≡ afterBytes columns now (take (all .used) input)
   -- a buffer too small for the end, which `longestEnd` bytes are always enough for: nothing is written, and the report stays
   pub small-end : (now : Report) (buffer : List ℕ) → length buffer < longestEnd
-      → reportEnd columns now buffer ≡ filled (record { report = now; used = 0; written = 0 }) buffer
+      → reportEnd columns now buffer ≡ reportDone (record { report = now; used = 0; written = 0 }) buffer
   -- as many good offers as bytes use up the input, and so do its pieces with room for all
   pub used-up : (now : Report) (input : List ℕ) (offers : List Offer) → GoodOffers offers → length input ≤ length offers
       → reportAll columns now input offers .used ≡ length input

@@ -6,14 +6,16 @@ use mathlib.Core.List.{List, [], _∷_, _++_}
 use lib.Dec.{eqb, ltb}
 use lib.ListN.{length, take, drop, set}
 use Rattle.frame.specs.declared.Kind.{Kind}
+use Rattle.frame.specs.declared.Kind.the-variants.{Long}
 use Rattle.receiver_state.specs.declared.Receiver.{Receiver}
+use Rattle.verdicts.specs.Table.{largestVerdict}
 use Rattle.stored_line.specs.declared.StoredLine.{StoredLine}
 use Rattle.stored_line.specs.declared.StoredLine.the-variants.{Refused}
 use Rattle.stored_line.specs.Read.{readLine}
 use Rattle.line_report.specs.declared.LinePart.{LinePart}
 use Rattle.line_report.specs.declared.Report.{Report}
 use Rattle.line_report.specs.declared.Reported.{Reported}
-use Rattle.line_report.specs.Text.{coreEndText}
+use Rattle.line_report.specs.Text.{kindDigits, coreEndText}
 use Rattle.line_report.specs.Output.{ownReceiver, feedLine, nextLine, linePrints}
 
 -- ---- the line so far
@@ -89,9 +91,17 @@ module _ (columns : Kind → List ℕ) where
 
 -- ---- a piece of the input, and a buffer
 
--- the longest text of a line: a line number of 20 digits, verdict, flag, a word of 8 digits, three spaces and the line feed
+-- the digits of a number below 1000
+abbrev pub digitsOf : ℕ → ℕ
+digitsOf n = cond (ltb n 10) 1 (cond (ltb n 100) 2 3)
+
+-- the longest text of an answer: the largest verdict, the flag, and the word of a long frame, with two spaces between
+abbrev pub longestAnswer : ℕ
+longestAnswer = digitsOf largestVerdict + 1 + 1 + 1 + kindDigits Long
+
+-- the longest text of a line: a line number of 20 digits, a space, an answer and the line feed; 34 in all
 abbrev pub longestLine : ℕ
-longestLine = 34
+longestLine = 20 + 1 + longestAnswer + 1
 
 -- what a call leaves: the report, how many bytes of input it used, and the text it wrote
 pub record Work : Type 0 where
@@ -116,29 +126,29 @@ module _ (columns : Kind → List ℕ) where
       (workOn (room - length (bytePrints columns now byte)) (afterByte columns now byte) bytes))
 
 -- what a call answers, and what the whole lent buffer then holds: the text, and its bytes beyond as they were
-pub record Filled : Type 0 where
+pub record ReportDone : Type 0 where
   pub answer : Reported
   pub buffer : List ℕ
 
-abbrev pub filled : Reported → List ℕ → Filled
-filled answer buffer = record { answer = answer; buffer = buffer }
+abbrev pub reportDone : Reported → List ℕ → ReportDone
+reportDone answer buffer = record { answer = answer; buffer = buffer }
 
 -- a text at the front of the buffer
-abbrev pub filledBy : Work → List ℕ → Filled
-filledBy done buffer =
-    filled
+abbrev pub doneBy : Work → List ℕ → ReportDone
+doneBy done buffer =
+    reportDone
     (record { report = done .report; used = done .used; written = length (done .text) })
     (done .text ++ drop (length (done .text)) buffer)
 
 -- what `report_input` gives
-abbrev pub reportInput : (Kind → List ℕ) → Report → List ℕ → List ℕ → Filled
-reportInput columns now input buffer = filledBy (workOn columns (length buffer) now input) buffer
+abbrev pub reportInput : (Kind → List ℕ) → Report → List ℕ → List ℕ → ReportDone
+reportInput columns now input buffer = doneBy (workOn columns (length buffer) now input) buffer
 
 -- ---- the end of input
 
--- room that is always enough for the end: a last line, and 31 bytes for `end` with numbers of 5, 3, 10 and 5 digits
+-- room that is always enough for the end: a last line, and 31 bytes for `end` with numbers of 5, 3, 10 and 5 digits; 65 in all
 abbrev pub longestEnd : ℕ
-longestEnd = 65
+longestEnd = longestLine + 31
 
 module _ (columns : Kind → List ℕ) where
   -- a last line that has a character but no line feed ends here
@@ -158,5 +168,5 @@ module _ (columns : Kind → List ℕ) where
   endWork room now = cond (ltb room longestEnd) (work now 0 []) (work (afterLast now) 0 (endPrints now))
 
 -- what `report_end` gives
-abbrev pub reportEnd : (Kind → List ℕ) → Report → List ℕ → Filled
-reportEnd columns now buffer = filledBy (endWork columns (length buffer) now) buffer
+abbrev pub reportEnd : (Kind → List ℕ) → Report → List ℕ → ReportDone
+reportEnd columns now buffer = doneBy (endWork columns (length buffer) now) buffer

@@ -7,7 +7,7 @@ use lib.Dec.{eqb, ltb}
 use Rattle.frame.specs.declared.Kind.{Kind}
 use Rattle.frame.specs.declared.Kind.the-variants.{Short, Long}
 use Rattle.receiver_state.specs.declared.Core.{Core}
-use Rattle.fate.specs.declared.Outputs.{Outputs}
+use Rattle.receiver_state.specs.declared.Outputs.{Outputs}
 use Rattle.receiver.specs.declared.ClockAnswer.{ClockAnswer}
 use Rattle.stored_line.specs.declared.StoredLine.{StoredLine}
 use Rattle.stored_line.specs.declared.StoredLine.the-variants.{Frame, Refused}
@@ -41,8 +41,8 @@ wordText digits shown =
     (hexDigits digits (shown .word)))
 
 -- "verdict, corrected flag, word"
-unfoldable pub fateText : ℕ → Outputs → List ℕ
-fateText digits shown = decimal (shown .verdict) ++ ((32 ∷ decimal (shown .corrected)) ++ (32 ∷ wordText digits shown))
+unfoldable pub verdictText : ℕ → Outputs → List ℕ
+verdictText digits shown = decimal (shown .verdict) ++ ((32 ∷ decimal (shown .corrected)) ++ (32 ∷ wordText digits shown))
 
 -- "`!`, refusal"
 unfoldable pub refusalText : ℕ → List ℕ
@@ -50,7 +50,7 @@ refusalText refusal = 33 ∷ 32 ∷ decimal refusal
 
 -- what the clock of the line's last bit shows, or the refusal
 unfoldable pub answerText : ℕ → ClockAnswer → List ℕ
-answerText digits answer = cond (eqb (answer .refusal) 0) (fateText digits (answer .outputs)) (refusalText (answer .refusal))
+answerText digits answer = cond (eqb (answer .refusal) 0) (verdictText digits (answer .outputs)) (refusalText (answer .refusal))
 
 -- "line number, verdict, corrected flag, word ..; or line number, `!`, refusal", and a line feed
 unfoldable pub lineText : ℕ → ℕ → ClockAnswer → List ℕ

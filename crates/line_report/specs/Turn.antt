@@ -6,17 +6,17 @@ use lib.ListN.{length, drop}
 use lib.Seq.{sets}
 use Rattle.frame.specs.declared.Kind.{Kind}
 use Rattle.line_report.specs.declared.Reported.{Reported}
-use Rattle.line_report.specs.Report.{Work, workOn, Filled, filled}
+use Rattle.line_report.specs.Report.{Work, workOn, ReportDone, reportDone}
 
 -- work behind so much input that was used and so much text that was written
-abbrev pub placed : ℕ → ℕ → List ℕ → Work → Filled
+abbrev pub placed : ℕ → ℕ → List ℕ → Work → ReportDone
 placed used written buffer rest =
-    filled
+    reportDone
     (record { report = rest .report; used = used + rest .used; written = written + length (rest .text) })
     (sets buffer written (rest .text))
 
 -- what comes of it if the rest of the input is worked on
-abbrev pub finishedFrom : (Kind → List ℕ) → Reported → List ℕ → List ℕ → Filled
+abbrev pub finishedFrom : (Kind → List ℕ) → Reported → List ℕ → List ℕ → ReportDone
 finishedFrom columns done input buffer =
     placed (done .used) (done .written) buffer (workOn columns (length buffer - done .written) (done .report) (drop (done .used) input))
 

@@ -6,12 +6,12 @@
 ghost use mathlib.Core.Path.{_≡_};
 ghost use Prim.Native.Nat.{_+_, _≤_, _<_};
 ghost use lib.ListN.{length};
-ghost use Rattle.fate.specs.Fate.{columnsOf};
+ghost use Rattle.frame.specs.Columns.{columnsOf};
 ghost use Rattle.line_report.specs.Text.{kindDigits, wordDigits};
 ghost use Rattle.line_report.specs.Output.{feedLine};
 ghost use Rattle.line_report.specs.Write.{TextAt};
 ghost use Rattle.line_report.specs.Turn.{Turned};
-ghost use Rattle.line_report.specs.Report.{startReport, untilFeed, lineEnded, lineEndPrints, longestLine, afterLast, lastPrints, filled, reportInput, reportEnd};
+ghost use Rattle.line_report.specs.Report.{startReport, untilFeed, lineEnded, lineEndPrints, longestLine, afterLast, lastPrints, reportDone, reportInput, reportEnd};
 use frame::Kind;
 use part::empty_part;
 use part::read_behind;
@@ -186,7 +186,7 @@ fn report_line(before: Reported, input: &[u8], out: &mut [u8]) -> Reported
 // Reports the lines that end in a piece of the input, until it is used up or the buffer could not
 // hold another line's text. The second `ensures` follows from the first; it serves callers' bounds.
 pub fn report_input(report: Report, input: &[u8], out: &mut [u8]) -> Reported
-    ensures { λ r. ⌜ filled r (now (out .exit)) ≡ reportInput columnsOf report (now (input .entry)) (now (out .entry)) ⌝ }
+    ensures { λ r. ⌜ reportDone r (now (out .exit)) ≡ reportInput columnsOf report (now (input .entry)) (now (out .entry)) ⌝ }
     ensures { λ r. ⌜ (r .used ≤ length (now (input .entry))) × (r .written ≤ length (now (out .entry))) ⌝ }
 {
     let mut done = Reported {
@@ -207,7 +207,7 @@ pub fn report_input(report: Report, input: &[u8], out: &mut [u8]) -> Reported
 
 // The end of input: a last line that has no line feed, and the line of the counts.
 pub fn report_end(report: Report, out: &mut [u8]) -> Reported
-    ensures { λ r. ⌜ filled r (now (out .exit)) ≡ reportEnd columnsOf report (now (out .entry)) ⌝ }
+    ensures { λ r. ⌜ reportDone r (now (out .exit)) ≡ reportEnd columnsOf report (now (out .entry)) ⌝ }
     ensures { λ r. ⌜ r .written ≤ length (now (out .entry)) ⌝ }
 {
     if out.len() < LONGEST_END {

@@ -3,10 +3,10 @@
 ghost use mathlib.Core.List.{[], _∷_};
 ghost use Prim.Native.Nat.{_+_, _≤_, _<_};
 ghost use lib.ListN.{length};
-ghost use Rattle.line_report.specs.Text.{decimal, wordText, fateText, refusalText, answerText, lineText, countsText, endText};
+ghost use Rattle.line_report.specs.Text.{decimal, wordText, verdictText, refusalText, answerText, lineText, countsText, endText};
 ghost use Rattle.line_report.specs.Write.{TextAt};
-use fate::Outputs;
 use receiver::ClockAnswer;
+use receiver_state::Outputs;
 use stored_line::write_hex;
 
 fn put(character: u8, at: usize, out: &mut [u8]) -> usize
@@ -52,9 +52,9 @@ fn put_word(digits: usize, shown: Outputs, at: usize, out: &mut [u8]) -> usize
 }
 
 // Verdict, corrected flag and word.
-fn put_fate(digits: usize, shown: Outputs, at: usize, out: &mut [u8]) -> usize
-    requires { ⌜ at + length (fateText digits shown) ≤ length (now out) ⌝ }
-    ensures { λ r. ⌜ TextAt r at (fateText digits shown) (now (out .entry)) (now (out .exit)) ⌝ }
+fn put_verdict(digits: usize, shown: Outputs, at: usize, out: &mut [u8]) -> usize
+    requires { ⌜ at + length (verdictText digits shown) ≤ length (now out) ⌝ }
+    ensures { λ r. ⌜ TextAt r at (verdictText digits shown) (now (out .entry)) (now (out .exit)) ⌝ }
 {
     let after_verdict = put_decimal(shown.verdict as u64, at, out);
     let after_flag = put_field(shown.corrected as u64, after_verdict, out);
@@ -75,7 +75,7 @@ fn put_answer(digits: usize, answer: ClockAnswer, at: usize, out: &mut [u8]) -> 
     ensures { λ r. ⌜ TextAt r at (answerText digits answer) (now (out .entry)) (now (out .exit)) ⌝ }
 {
     if answer.refusal == 0 {
-        return put_fate(digits, answer.outputs, at, out);
+        return put_verdict(digits, answer.outputs, at, out);
     }
     put_refusal(answer.refusal, at, out)
 }

@@ -1,61 +1,48 @@
 -- What holds of every clock. Assumes nothing.
-use mathlib.Core.Path.{_≡_, refl, sym, ap, subst, _∙_}
+use mathlib.Core.Path.{_≡_, refl, sym, ap, ap₂, subst, _∙_}
 use mathlib.Core.Logic.{_≢_, _↔_, ⊎-elim}
-use mathlib.Core.Bool.{Bool, true, false, cond}
+use mathlib.Core.Bool.{Bool, true, false, cond, true≢false}
 use mathlib.Core.List.{List}
-use Prim.Native.Nat.{ℕ, zero, suc, _*_, _^_, _<_, _≤_}
+use Prim.Native.Nat.{ℕ, _≤_}
 use native.Mathlib.Omega.{arith}
 use borrow.Author.Tests.{eqb-false, lt-ltb, ltb-false}
 use lib.Dec.{eqb, ltb}
+use Rattle.laws.specs.OneOf.{oneOf}
 use Rattle.laws.proofs.Rules.{picked-by}
-use Rattle.fate.proofs.Laws.{fate-theorem, tables-good}
 use Rattle.frame.specs.declared.Kind.{Kind}
+use Rattle.frame.specs.Numbers.{stopBit}
+use Rattle.frame.specs.Columns.{columnsOf}
+use Rattle.frame.proofs.Columns.{tables-good}
 use Rattle.receiver_state.specs.declared.Settings.{Settings}
 use Rattle.receiver_state.specs.declared.Errors.{Errors}
 use Rattle.receiver_state.specs.declared.Core.{Core}
 use Rattle.receiver_state.specs.declared.Held.{Held}
+use Rattle.receiver_state.specs.declared.Outputs.{Outputs}
 use Rattle.receiver_state.specs.declared.Receiver.{Receiver}
-use Rattle.receiver_state.specs.State.{holding, nothingHeld, receiver, freshCore, freshState}
-use Rattle.receiver_state.specs.WellFormed.{wellFormed, HeldFacts}
+use Rattle.receiver_state.specs.State.{receiver, freshState}
+use Rattle.receiver_state.specs.Shown.{ShowsNothing, Stands}
+use Rattle.receiver_state.specs.WellFormed.{wellFormed}
 use Rattle.receiver_state.proofs.WellFormed.{receiver-facts, receiver-ok}
-use Rattle.fate.specs.declared.Outputs.{Outputs}
+use Rattle.receiver_state.proofs.Shown.{none-shown, same-stands}
+use Rattle.idle_clock.specs.IdleClock.{idleClock}
+use Rattle.idle_clock.specs.Laws.{Shows, BusShows, SequenceLeft}
+use Rattle.idle_clock.proofs.Laws.{idle-laws}
+use Rattle.channel_b.specs.declared.Taken.{Taken}
+use Rattle.channel_b.specs.declared.Taken.the-variants.{Unfinished, Finished}
+use Rattle.channel_b.specs.TakeBit.{takeBit, heldAfter, heldThen, Waits}
+use Rattle.channel_b.proofs.Laws.{finishes-frames, after-frame}
+use Rattle.verdicts.specs.Table.{dropped}
+use Rattle.verdicts.specs.Finished.{finished, finishedBy}
+use Rattle.verdicts.specs.FrameLaws.{ErrorsMove, SettingsMove}
+use Rattle.verdicts.specs.Laws.{VerdictLaws}
+use Rattle.verdicts.proofs.Laws.{verdict-theorem}
 use Rattle.receiver.specs.declared.ClockAnswer.{ClockAnswer}
-use Rattle.receiver.specs.declared.Taken.{Taken}
-use Rattle.receiver.specs.declared.Taken.the-variants.{Unfinished, Finished}
-use Rattle.receiver.specs.TakeBit.{takeBit, heldAfter, Waits}
-use Rattle.receiver.specs.IdleClock.{idleClock}
-use Rattle.fate.specs.Fate.{columnsOf, finishedAnswer, finished}
 use Rattle.receiver.specs.Clock.{applyFrame, clockedAnswer, stepAnswer, refusedClock, clockAnswer}
 use Rattle.receiver.specs.Laws as laws
-use Rattle.receiver.specs.StepLaws.{ShowsNothing, Shows, BusShows, SequenceLeft, CountersAdvance}
-use Rattle.fate.specs.FrameLaws.{Stands, ErrorsMove, SettingsMove}
-use Rattle.fate.specs.Laws.{FateLaws}
-use Rattle.receiver.specs.Laws.{Accepted, ClockLaws, ClockTheorem, ReceiverLaws}
-use Rattle.receiver.proofs.TakeBit.{TakenFacts, taken-facts}
-use Rattle.receiver.proofs.Bits.{bit-law}
+use Rattle.receiver.specs.Laws.{CountersAdvance, Accepted, ClockLaws, ClockTheorem, ReceiverLaws}
 use Rattle.receiver.proofs.Unchecked.{step-is-clock, unfinished-step, finished-step}
 use Rattle.receiver.proofs.Keep.{step-facts}
-use Rattle.receiver.proofs.BusSequence.{idle-shows, idle-left}
 use Rattle.receiver.proofs.Advance.{unmoved-counters, advance}
-
--- ---- waiting
-
-pub waits-none : (core : Core) → Waits (receiver core nothingHeld)
-unfolding takeBit
-waits-none core = record { none-held = refl; start-next = refl }
-
-pub none-held : (count bits : ℕ) → count ≡ 0 → HeldFacts (holding count bits) → holding count bits ≡ nothingHeld
-none-held zero bits z f = ap (holding 0) (let s : bits * 2 < 2 ^ 0 = f .start in omega arith)
-none-held (suc count) bits z f = absurd (omega arith)
-
-waits-law : laws.WaitsLaw
-waits-law r e = (
-  λ w. none-held (r .held .count) (r .held .bits) (w .none-held) (receiver-facts r e .of-held),
-  λ h. subst (λ (x : Held). Waits (receiver (r .core) x)) (sym h) (waits-none (r .core)),
-)
-
-finishes-frames : laws.FinishesFrames
-finishes-frames r bit kind number e b f = subst TakenFacts f (taken-facts (r .held) bit (receiver-facts r e .of-held) b)
 
 -- what holds of a bus holds of outputs that show the same
 same-bus : (core : Core) (trigger : ℕ) (shown idle : Outputs) → Stands shown idle → BusShows core trigger idle → BusShows core trigger shown
@@ -78,12 +65,12 @@ same-bus core trigger shown idle e b =
 
 -- ---- a clock that finishes no frame
 
-unmoved-errors : (before : Errors) (shown : Outputs) → shown .verdict ≡ 0 → ErrorsMove before shown before
-unmoved-errors before shown z =
+unmoved-errors : (before : Errors) (shown : Outputs) → shown .verdict ≡ 0 → shown .corrected ≡ 0 → ErrorsMove before shown before
+unfolding dropped oneOf
+unmoved-errors before shown z f =
     record {
-      double-up = λ p. absurd (⊎-elim (λ q. omega arith) (⊎-elim (λ q. omega arith) (λ q. omega arith)) p);
-      single-up = λ p.
-          absurd (⊎-elim (λ q. omega arith) (⊎-elim (λ q. omega arith) (⊎-elim (λ q. omega arith) (⊎-elim (λ q. omega arith) (λ q. omega arith)))) (p .1));
+      double-up = λ p. absurd (true≢false (sym p ∙ ap dropped z));
+      single-up = λ p. absurd (no-flag f (p .0));
       reset = λ p. absurd (omega arith);
       double-stays = λ p q. refl;
       single-stays = λ p q. refl;
@@ -91,6 +78,9 @@ unmoved-errors before shown z =
       status-set = λ p q. absurd (p z);
       status-stays = λ p. refl;
     }
+  where
+    no-flag : {n : ℕ} → n ≡ 0 → n ≡ 1 → ⊥
+    no-flag z o = omega arith
 
 unmoved-settings : (before : Settings) (shown : Outputs) → shown .verdict ≡ 0 → SettingsMove before shown before
 unmoved-settings before shown z =
@@ -105,7 +95,7 @@ abbrev IsUnfinished : Taken → Type 0
 IsUnfinished (Unfinished held) = Unit {0}
 IsUnfinished (Finished kind number) = ⊥
 
-module _ (columns : Kind → List ℕ) (fates : FateLaws columns) where
+module _ (columns : Kind → List ℕ) (verdicts : VerdictLaws columns) where
   -- ---- refused or stepped
 
   -- what holds of the step of an accepted clock, and of every refusal, holds of the clock
@@ -152,7 +142,7 @@ module _ (columns : Kind → List ℕ) (fates : FateLaws columns) where
   refused-law r trigger bit =
       by-refusal (λ (a : ClockAnswer). a .refusal ≢ 0 → (a .receiver ≡ r) × ShowsNothing (a .outputs)) r trigger bit
       (λ h n. absurd (n (stepped-zero r trigger bit)))
-      (λ n m z. (refl, record { no-trigger = refl; no-missed = refl; no-strobe = refl; no-number = refl; no-verdict = refl; no-flag = refl; no-word = refl }))
+      (λ n m z. (refl, none-shown))
 
   stays-well-formed : laws.StaysWellFormed columns
   stays-well-formed r trigger bit e =
@@ -164,12 +154,12 @@ module _ (columns : Kind → List ℕ) (fates : FateLaws columns) where
 
   by-taken : (P : Taken → ClockAnswer → Type 0) (r : Receiver) (trigger bit : ℕ)
       → ((held : Held) → P (Unfinished held) (clockedAnswer held (idleClock (r .core) trigger)))
-      → ((kind : Kind) (number : ℕ) → P (Finished kind number) (clockedAnswer nothingHeld (finished kind (finishedAnswer columns kind number) (idleClock (r .core) trigger))))
+      → ((kind : Kind) (number : ℕ) → P (Finished kind number) (clockedAnswer (heldAfter kind number) (finishedBy columns kind number (idleClock (r .core) trigger))))
       → P (takeBit (r .held) bit) (stepAnswer columns r trigger bit)
   unfolding stepAnswer
   by-taken P r trigger bit unfinished done = go (takeBit (r .held) bit)
     where
-      go : (taken : Taken) → P taken (clockedAnswer (heldAfter taken) (applyFrame columns taken (idleClock (r .core) trigger)))
+      go : (taken : Taken) → P taken (clockedAnswer (heldThen taken) (applyFrame columns taken (idleClock (r .core) trigger)))
       go (Unfinished held) = unfinished held
       go (Finished kind number) = done kind number
 
@@ -179,7 +169,7 @@ module _ (columns : Kind → List ℕ) (fates : FateLaws columns) where
       rw (accepted r trigger bit h)
       (by-taken (λ taken (a : ClockAnswer). (a .outputs .verdict ≡ 0) ↔ ((kind : Kind) (number : ℕ) → taken ≡ Finished kind number → ⊥)) r trigger bit
       (λ held. (λ e kind number f. subst IsUnfinished f tt, λ f. refl))
-      (λ kind number. (λ e. absurd (fates .not-zero kind number (idleClock (r .core) trigger) e), λ f. absurd (f kind number refl))))
+      (λ kind number. (λ e. absurd (verdicts .not-zero kind number (idleClock (r .core) trigger) e), λ f. absurd (f kind number refl))))
 
   no-frame-law : laws.NoFrameLaw columns
   no-frame-law r trigger bit held h e = accepted r trigger bit h ∙ unfinished-step columns r trigger bit held e
@@ -192,7 +182,7 @@ module _ (columns : Kind → List ℕ) (fates : FateLaws columns) where
   nothing-shown r trigger bit =
       by-refusal None r trigger bit
       (λ h. by-taken (λ taken a. None a) r trigger bit (λ held z. (refl, refl))
-      (λ kind number z. absurd (fates .not-zero kind number (idleClock (r .core) trigger) z)))
+      (λ kind number z. absurd (verdicts .not-zero kind number (idleClock (r .core) trigger) z)))
       (λ n m z. (refl, refl))
     where
       None : ClockAnswer → Type 0
@@ -202,7 +192,7 @@ module _ (columns : Kind → List ℕ) (fates : FateLaws columns) where
   unfolding stepAnswer idleClock
   verdict-law r trigger bit kind number h f =
       rw (accepted r trigger bit h, f)
-      (fates .shows-frame kind number (idleClock (r .core) trigger) (finishes-frames r bit kind number (h .0) (h .2) f))
+      (verdicts .shows-frame kind number (idleClock (r .core) trigger) (finishes-frames (r .held) bit kind number (receiver-facts r (h .0) .of-held) (h .2) f))
 
   waits-after : laws.WaitsAfter columns
   unfolding idleClock
@@ -210,7 +200,7 @@ module _ (columns : Kind → List ℕ) (fates : FateLaws columns) where
       by-refusal (λ (a : ClockAnswer). a .outputs .verdict ≢ 0 → Waits (a .receiver)) r trigger bit
       (λ h. by-taken (λ taken (a : ClockAnswer). a .outputs .verdict ≢ 0 → Waits (a .receiver)) r trigger bit
       (λ held n. absurd (n refl))
-      (λ kind number n. waits-none _))
+      (λ kind number n. after-frame .waits _ kind number))
       (λ n m z. absurd (z refl))
 
   -- ---- steps 1 and 2
@@ -219,31 +209,32 @@ module _ (columns : Kind → List ℕ) (fates : FateLaws columns) where
   outputs-stand r trigger bit h =
       rw (accepted r trigger bit h)
       (by-taken (λ taken (a : ClockAnswer). Stands (a .outputs) (idleClock (r .core) trigger .outputs)) r trigger bit
-      (λ held. record { trigger-stands = refl; missed-stands = refl; strobe-stands = refl; number-stands = refl })
-      (λ kind number. fates .outputs-stand kind number (idleClock (r .core) trigger)))
+      (λ held. same-stands _)
+      (λ kind number. verdicts .outputs-stand kind number (idleClock (r .core) trigger)))
 
   bus-law : laws.BusLaw columns
   bus-law r trigger bit h =
+      let shows = idle-laws .bus-shows (r .core) trigger (receiver-facts r (h .0) .of-core) in
       rw (accepted r trigger bit h)
       (by-taken (λ taken (a : ClockAnswer). BusShows (r .core) trigger (a .outputs)) r trigger bit
-      (λ held. idle-shows (r .core) trigger)
-      (λ kind number. same-bus (r .core) trigger _ _ (fates .outputs-stand kind number (idleClock (r .core) trigger)) (idle-shows (r .core) trigger)))
+      (λ held. shows)
+      (λ kind number. same-bus (r .core) trigger _ _ (verdicts .outputs-stand kind number (idleClock (r .core) trigger)) shows))
 
   sequence-law : laws.SequenceLaw columns
   sequence-law r trigger bit h =
       rw (accepted r trigger bit h)
       (by-taken (λ taken (a : ClockAnswer). a .outputs .verdict ≢ 3 → SequenceLeft (r .core) trigger (a .receiver .core .sequence)) r trigger bit
-      (λ held n. idle-left (r .core) trigger)
-      (λ kind number n. rw (fates .sequence-stays kind number (idleClock (r .core) trigger) n) (idle-left (r .core) trigger)))
+      (λ held n. idle-laws .sequence-left (r .core) trigger)
+      (λ kind number n. rw (verdicts .sequence-stays kind number (idleClock (r .core) trigger) n) (idle-laws .sequence-left (r .core) trigger)))
 
   advance-law : laws.AdvanceLaw columns
   unfolding idleClock
   advance-law r trigger bit h =
-      let f = receiver-facts r (h .0) .of-core .of-counters in
+      let f = receiver-facts r (h .0) .of-core in
       rw (accepted r trigger bit h)
       (by-taken (λ taken (a : ClockAnswer). CountersAdvance (r .core .counters) trigger (a .outputs) (a .receiver .core .counters)) r trigger bit
       (λ held. advance (r .core) trigger _ _ f (h .1) (unmoved-counters _ _ refl))
-      (λ kind number. advance (r .core) trigger _ _ f (h .1) (fates .counters-move kind number (idleClock (r .core) trigger))))
+      (λ kind number. advance (r .core) trigger _ _ f (h .1) (verdicts .counters-move kind number (idleClock (r .core) trigger))))
 
   -- ---- step 3
 
@@ -251,9 +242,9 @@ module _ (columns : Kind → List ℕ) (fates : FateLaws columns) where
   unfolding idleClock
   errors-law r trigger bit =
       by-refusal Moves r trigger bit
-      (λ h. by-taken (λ taken a. Moves a) r trigger bit (λ held. unmoved-errors (r .core .errors) _ refl)
-      (λ kind number. fates .errors-move kind number (idleClock (r .core) trigger)))
-      (λ n z. unmoved-errors (r .core .errors) _ refl)
+      (λ h. by-taken (λ taken a. Moves a) r trigger bit (λ held. unmoved-errors (r .core .errors) _ refl refl)
+      (λ kind number. verdicts .errors-move kind number (idleClock (r .core) trigger)))
+      (λ n z. unmoved-errors (r .core .errors) _ refl refl)
     where
       Moves : ClockAnswer → Type 0
       Moves a = ErrorsMove (r .core .errors) (a .outputs) (a .receiver .core .errors)
@@ -263,7 +254,7 @@ module _ (columns : Kind → List ℕ) (fates : FateLaws columns) where
   settings-law r trigger bit =
       by-refusal Moves r trigger bit
       (λ h. by-taken (λ taken a. Moves a) r trigger bit (λ held. unmoved-settings (r .core .settings) _ refl)
-      (λ kind number. fates .settings-move kind number (idleClock (r .core) trigger)))
+      (λ kind number. verdicts .settings-move kind number (idleClock (r .core) trigger)))
       (λ n z. unmoved-settings (r .core .settings) _ refl)
     where
       Moves : ClockAnswer → Type 0
@@ -275,9 +266,17 @@ module _ (columns : Kind → List ℕ) (fates : FateLaws columns) where
       by-refusal Reset r trigger bit
       (λ h. by-taken (λ taken a. Reset a) r trigger bit
       (λ held e. absurd (omega arith))
-      (λ kind number e. ap (λ (core : Core). receiver core nothingHeld) (fates .reset-is-fresh kind number (idleClock (r .core) trigger) e)))
+      (λ kind number e.
+      let idle = idleClock (r .core) trigger in
+      ap₂ receiver (verdicts .reset-is-fresh kind number idle e) (after-frame .stop-one kind number (stopped kind number (λ z. three-not-7 e (verdicts .seven-exactly kind number idle .1 z))))))
       (λ n m e. absurd (omega arith))
     where
+      three-not-7 : {n : ℕ} → n ≡ 3 → n ≡ 7 → ⊥
+      three-not-7 t s = omega arith
+
+      stopped : (kind : Kind) (number : ℕ) → stopBit number ≢ 0 → stopBit number ≡ 1
+      stopped kind number n = omega (arith, n)
+
       Reset : ClockAnswer → Type 0
       Reset a = a .outputs .verdict ≡ 3 → a .receiver ≡ freshState (r .core .ids)
 
@@ -287,14 +286,14 @@ module _ (columns : Kind → List ℕ) (fates : FateLaws columns) where
       by-refusal (λ (a : ClockAnswer). a .receiver .core .ids ≡ r .core .ids) r trigger bit
       (λ h. by-taken (λ taken (a : ClockAnswer). a .receiver .core .ids ≡ r .core .ids) r trigger bit
       (λ held. refl)
-      (λ kind number. fates .ids-stay kind number (idleClock (r .core) trigger)))
+      (λ kind number. verdicts .ids-stay kind number (idleClock (r .core) trigger)))
       (λ n m. refl)
 
   executed-exactly : laws.ExecutedExactly columns
   unfolding stepAnswer idleClock
   executed-exactly r trigger bit kind number h f =
       rw (accepted r trigger bit h, f)
-      (fates .executed-exactly kind number (idleClock (r .core) trigger) (finishes-frames r bit kind number (h .0) (h .2) f))
+      (verdicts .executed-exactly kind number (idleClock (r .core) trigger) (finishes-frames (r .held) bit kind number (receiver-facts r (h .0) .of-held) (h .2) f))
 
   laws-of : ClockLaws columns
   laws-of = record {
@@ -303,10 +302,6 @@ module _ (columns : Kind → List ℕ) (fates : FateLaws columns) where
     refused-by-1 = refused-by-1;
     refused-law = refused-law;
     stays-well-formed = stays-well-formed;
-    waits-law = waits-law;
-    fresh-waits = λ own. waits-none (freshCore own);
-    bit-law = bit-law;
-    finishes-frames = finishes-frames;
     no-frame-law = no-frame-law;
     frame-law = frame-law;
     verdict-zero = verdict-zero;
@@ -325,7 +320,7 @@ module _ (columns : Kind → List ℕ) (fates : FateLaws columns) where
   }
 
 pub clock-theorem : ClockTheorem
-clock-theorem columns good = laws-of columns (fate-theorem columns good)
+clock-theorem columns good = laws-of columns (verdict-theorem columns good)
 
 pub receiver-laws : ReceiverLaws
 receiver-laws = clock-theorem columnsOf tables-good

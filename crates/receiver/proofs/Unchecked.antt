@@ -7,13 +7,12 @@ use borrow.Author.Tests.{le-ltb}
 use Rattle.frame.specs.declared.Kind.{Kind}
 use Rattle.receiver_state.specs.declared.Held.{Held}
 use Rattle.receiver_state.specs.declared.Receiver.{Receiver}
-use Rattle.receiver_state.specs.State.{nothingHeld}
 use Rattle.receiver_state.specs.WellFormed.{ReceiverFacts}
 use Rattle.receiver_state.proofs.WellFormed.{receiver-ok}
-use Rattle.fate.specs.Laws.{finishedBy}
-use Rattle.receiver.specs.declared.Taken.the-variants.{Unfinished, Finished}
-use Rattle.receiver.specs.TakeBit.{takeBit}
-use Rattle.receiver.specs.IdleClock.{idleClock}
+use Rattle.idle_clock.specs.IdleClock.{idleClock}
+use Rattle.channel_b.specs.declared.Taken.the-variants.{Unfinished, Finished}
+use Rattle.channel_b.specs.TakeBit.{takeBit, heldAfter}
+use Rattle.verdicts.specs.Finished.{finishedBy}
 use Rattle.receiver.specs.Clock.{clockedAnswer, stepAnswer, clockAnswer}
 
 module _ (columns : Kind → List ℕ) (r : Receiver) (trigger bit : ℕ) where
@@ -26,6 +25,6 @@ module _ (columns : Kind → List ℕ) (r : Receiver) (trigger bit : ℕ) where
   unfinished-step held e = rw e refl
 
   pub finished-step : (kind : Kind) (number : ℕ) → takeBit (r .held) bit ≡ Finished kind number
-      → stepAnswer columns r trigger bit ≡ clockedAnswer nothingHeld (finishedBy columns kind number (idleClock (r .core) trigger))
+      → stepAnswer columns r trigger bit ≡ clockedAnswer (heldAfter kind number) (finishedBy columns kind number (idleClock (r .core) trigger))
   unfolding stepAnswer
   finished-step kind number e = rw e refl

@@ -6,21 +6,21 @@ use lib.Dec.{ltb}
 use Rattle.frame.specs.declared.Kind.{Kind}
 use Rattle.receiver_state.specs.declared.Held.{Held}
 use Rattle.receiver_state.specs.declared.Receiver.{Receiver}
-use Rattle.fate.specs.declared.Outputs.{Outputs}
-use Rattle.fate.specs.declared.Clocked.{Clocked}
-use Rattle.receiver.specs.declared.ClockAnswer.{ClockAnswer}
+use Rattle.receiver_state.specs.declared.Clocked.{Clocked}
 use Rattle.receiver_state.specs.State.{receiver}
+use Rattle.receiver_state.specs.Shown.{noOutputs}
 use Rattle.receiver_state.specs.WellFormed.{wellFormed}
-use Rattle.receiver.specs.TakeBit.{takeBit, heldAfter}
-use Rattle.receiver.specs.IdleClock.{idleClock}
-use Rattle.receiver.specs.declared.Taken.{Taken}
-use Rattle.receiver.specs.declared.Taken.the-variants.{Unfinished, Finished}
-use Rattle.fate.specs.Fate.{finishedAnswer, finished}
+use Rattle.idle_clock.specs.IdleClock.{idleClock}
+use Rattle.channel_b.specs.declared.Taken.{Taken}
+use Rattle.channel_b.specs.declared.Taken.the-variants.{Unfinished, Finished}
+use Rattle.channel_b.specs.TakeBit.{takeBit, heldThen}
+use Rattle.verdicts.specs.Finished.{finishedBy}
+use Rattle.receiver.specs.declared.ClockAnswer.{ClockAnswer}
 
 -- "Verdict 0: no frame finished on this clock."
 abbrev pub applyFrame : (Kind → List ℕ) → Taken → Clocked → Clocked
 applyFrame columns (Unfinished held) idle = idle
-applyFrame columns (Finished kind number) idle = finished kind (finishedAnswer columns kind number) idle
+applyFrame columns (Finished kind number) idle = finishedBy columns kind number idle
 
 abbrev pub clockedAnswer : Held → Clocked → ClockAnswer
 clockedAnswer held clocked = record { refusal = 0; receiver = receiver (clocked .core) held; outputs = clocked .outputs }
@@ -28,10 +28,7 @@ clockedAnswer held clocked = record { refusal = 0; receiver = receiver (clocked 
 -- the three steps: 1 and 2 are the idle clock; 3, "The channel B bit is taken, and a finished frame acts."
 unfoldable pub stepAnswer : (Kind → List ℕ) → Receiver → ℕ → ℕ → ClockAnswer
 stepAnswer columns r trigger bit =
-    clockedAnswer (heldAfter (takeBit (r .held) bit)) (applyFrame columns (takeBit (r .held) bit) (idleClock (r .core) trigger))
-
-abbrev pub noOutputs : Outputs
-noOutputs = record { trigger = 0; missed = 0; strobe = 0; number = 0; verdict = 0; corrected = 0; word = 0 }
+    clockedAnswer (heldThen (takeBit (r .held) bit)) (applyFrame columns (takeBit (r .held) bit) (idleClock (r .core) trigger))
 
 -- "A refused call returns its number with all other result fields 0 .., the state unchanged where one was given"
 abbrev pub refusedClock : ℕ → Receiver → ClockAnswer

@@ -1,25 +1,39 @@
 -- Document 01, "One clock": what holds of every clock, over the columns of each kind of frame. Proved in proofs/Laws.antt.
-use Prim.Native.Nat.{ℕ, _+_, _-_, _*_, _/_, _%_, _^_, _<_, _≤_}
+use Prim.Native.Nat.{ℕ, _+_, _/_, _%_, _^_, _<_}
 use mathlib.Core.Path.{_≡_}
 use mathlib.Core.Logic.{_≢_, _⊎_, _↔_}
 use mathlib.Core.Bool.{true, false}
 use mathlib.Core.List.{List}
 use Rattle.frame.specs.declared.Kind.{Kind}
-use Rattle.frame.specs.Numbers.{frameBits, isFrame}
+use Rattle.frame.specs.Numbers.{isFrame}
+use Rattle.frame.specs.Columns.{columnsOf, GoodTables}
 use Rattle.frame.specs.Decode.{decodeFrame}
-use Rattle.receiver_state.specs.declared.Ids.{Ids}
+use Rattle.receiver_state.specs.declared.Counters.{Counters}
 use Rattle.receiver_state.specs.declared.Held.{Held}
+use Rattle.receiver_state.specs.declared.Outputs.{Outputs}
 use Rattle.receiver_state.specs.declared.Receiver.{Receiver}
-use Rattle.receiver_state.specs.State.{holding, nothingHeld, freshState}
+use Rattle.receiver_state.specs.State.{freshState}
+use Rattle.receiver_state.specs.Shown.{ShowsNothing, Stands}
 use Rattle.receiver_state.specs.WellFormed.{wellFormed}
-use Rattle.receiver.specs.declared.Taken.the-variants.{Unfinished, Finished}
-use Rattle.receiver.specs.TakeBit.{takeBit, Waits}
-use Rattle.receiver.specs.IdleClock.{idleClock}
-use Rattle.fate.specs.Fate.{executed, columnsOf}
+use Rattle.idle_clock.specs.IdleClock.{idleClock}
+use Rattle.idle_clock.specs.Laws.{BusShows, SequenceLeft}
+use Rattle.channel_b.specs.declared.Taken.the-variants.{Unfinished, Finished}
+use Rattle.channel_b.specs.TakeBit.{takeBit, heldAfter, Waits}
+use Rattle.verdicts.specs.Table.{executed}
+use Rattle.verdicts.specs.Finished.{finishedBy}
+use Rattle.verdicts.specs.FrameLaws.{ShowsFrame, ErrorsMove, SettingsMove, ExecutedFrame}
 use Rattle.receiver.specs.Clock.{clockedAnswer, refusedClock, clockAnswer}
-use Rattle.receiver.specs.StepLaws.{ShowsNothing, BusShows, SequenceLeft, CountersAdvance}
-use Rattle.fate.specs.Laws.{finishedBy, GoodTables}
-use Rattle.fate.specs.FrameLaws.{Stands, ShowsFrame, ErrorsMove, SettingsMove, ExecutedFrame}
+
+-- ---- the bunch and event counters
+
+-- but for RESET: one up, the event counter only with a trigger; the clears of a broadcast "win", and its word shows them
+pub record CountersAdvance (before : Counters) (trigger : ℕ) (shown : Outputs) (after : Counters) : Type 0 where
+  pub bunch-up : shown .verdict ≢ 1 → shown .verdict ≢ 3 → after .bunch ≡ (before .bunch + 1) % 4096
+  pub event-up : shown .verdict ≢ 1 → shown .verdict ≢ 3 → after .event ≡ (before .event + trigger) % 2 ^ 24
+  pub bunch-cleared : shown .verdict ≡ 1 → shown .word % 2 ≡ 1 → after .bunch ≡ 0
+  pub bunch-not-cleared : shown .verdict ≡ 1 → shown .word % 2 ≡ 0 → after .bunch ≡ (before .bunch + 1) % 4096
+  pub event-cleared : shown .verdict ≡ 1 → shown .word / 2 % 2 ≡ 1 → after .event ≡ 0
+  pub event-not-cleared : shown .verdict ≡ 1 → shown .word / 2 % 2 ≡ 0 → after .event ≡ (before .event + trigger) % 2 ^ 24
 
 -- ---- refusals
 
@@ -51,44 +65,11 @@ module _ (columns : Kind → List ℕ) where
   abbrev pub StaysWellFormed : Type 0
   StaysWellFormed = (r : Receiver) (trigger bit : ℕ) → wellFormed r ≡ true → wellFormed (clockAnswer columns r trigger bit .receiver) ≡ true
 
--- ---- waiting
-
--- 01's two halves of "waits" come to: no bit is held
-abbrev pub WaitsLaw : Type 0
-WaitsLaw = (r : Receiver) → wellFormed r ≡ true → Waits r ↔ (r .held ≡ nothingHeld)
-
-abbrev pub FreshWaits : Type 0
-FreshWaits = (own : Ids) → Waits (freshState own)
-
 -- ---- the bit of channel B
-
--- the first n bits of a frame number of the kind, in the order sent, and the bit behind them
-abbrev pub firstBits : Kind → ℕ → ℕ → Held
-firstBits kind number n = holding n (number / 2 ^ (frameBits kind - n))
-
-abbrev pub bitAfter : Kind → ℕ → ℕ → ℕ
-bitAfter kind number n = number / 2 ^ (frameBits kind - (n + 1)) % 2
-
--- while waiting, a 1 is idle and a 0 the start bit; then every frame is taken bit by bit, and its last bit finishes it
-pub record BitLaw : Type 0 where
-  pub idle-bit : takeBit (holding 0 0) 1 ≡ Unfinished (holding 0 0)
-  pub start-bit : takeBit (holding 0 0) 0 ≡ Unfinished (holding 1 0)
-  pub next-bit : (kind : Kind) (number n : ℕ) → isFrame kind number ≡ true → 1 ≤ n → n + 1 < frameBits kind
-      → takeBit (firstBits kind number n) (bitAfter kind number n) ≡ Unfinished (firstBits kind number (n + 1))
-  pub last-bit : (kind : Kind) (number n : ℕ) → isFrame kind number ≡ true → n + 1 ≡ frameBits kind
-      → takeBit (firstBits kind number n) (bitAfter kind number n) ≡ Finished kind number
-  -- behind bits that are held, whatever they are, a bit finishes a frame or is held with them
-  pub later-bit : (held : Held) (bit : ℕ) → held .count ≢ 0
-      → ((kind : Kind) × (takeBit held bit ≡ Finished kind (held .bits * 2 + bit)))
-      ⊎ (takeBit held bit ≡ Unfinished (holding (held .count + 1) (held .bits * 2 + bit)))
 
 -- the bit finishes that frame
 abbrev pub Finishes : Receiver → ℕ → Kind → ℕ → Type 0
 Finishes r bit kind number = takeBit (r .held) bit ≡ Finished kind number
-
--- start and format of a finished frame are those of its kind
-abbrev pub FinishesFrames : Type 0
-FinishesFrames = (r : Receiver) (bit : ℕ) (kind : Kind) (number : ℕ) → wellFormed r ≡ true → bit < 2 → Finishes r bit kind number → isFrame kind number ≡ true
 
 module _ (columns : Kind → List ℕ) where
   -- where no frame finishes, a clock is its steps 1 and 2, and the bits then held
@@ -97,11 +78,11 @@ module _ (columns : Kind → List ℕ) where
       (r : Receiver) (trigger bit : ℕ) (held : Held) → Accepted r trigger bit → takeBit (r .held) bit ≡ Unfinished held
       → clockAnswer columns r trigger bit ≡ clockedAnswer held (idleClock (r .core) trigger)
 
-  -- where one finishes, a clock is its steps 1 and 2 with the fate of that frame, and then waits
+  -- where one finishes, a clock is its steps 1 and 2 with the row of that frame, and what the frame leaves held
   abbrev pub FrameLaw : Type 0
   FrameLaw =
       (r : Receiver) (trigger bit : ℕ) (kind : Kind) (number : ℕ) → Accepted r trigger bit → Finishes r bit kind number
-      → clockAnswer columns r trigger bit ≡ clockedAnswer nothingHeld (finishedBy columns kind number (idleClock (r .core) trigger))
+      → clockAnswer columns r trigger bit ≡ clockedAnswer (heldAfter kind number) (finishedBy columns kind number (idleClock (r .core) trigger))
 
   -- "Verdict 0: no frame finished on this clock.", and conversely
   abbrev pub VerdictZero : Type 0
@@ -185,10 +166,6 @@ pub record ClockLaws (columns : Kind → List ℕ) : Type 0 where
   pub refused-by-1 : RefusedBy1 columns
   pub refused-law : RefusedLaw columns
   pub stays-well-formed : StaysWellFormed columns
-  pub waits-law : WaitsLaw
-  pub fresh-waits : FreshWaits
-  pub bit-law : BitLaw
-  pub finishes-frames : FinishesFrames
   pub no-frame-law : NoFrameLaw columns
   pub frame-law : FrameLaw columns
   pub verdict-zero : VerdictZero columns

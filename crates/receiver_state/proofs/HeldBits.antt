@@ -11,9 +11,9 @@ use lib.Pow.{pow-pos, pow-add, shl-lt, shr-lt, shl-shr}
 use Rattle.frame.specs.declared.Kind.the-variants.{Short, Long}
 use Rattle.frame.specs.Numbers.{frameBits, isFrame}
 use Rattle.receiver_state.specs.declared.Held.{Held}
-use Rattle.receiver_state.specs.State.{holding, nothingHeld}
+use Rattle.receiver_state.specs.State.{holding, nothingHeld, isWaiting}
 use Rattle.receiver_state.specs.WellFormed.{HeldFacts}
-use Rattle.receiver_state.specs.States.{PartOf, HeldLaw}
+use Rattle.receiver_state.specs.States.{PartOf, HeldLaw, WaitingLaw}
 
 -- ---- bits held are the first of a frame: it has 0 for the bits still to come
 
@@ -120,6 +120,16 @@ long-facts h p =
 
 pub none-facts : HeldFacts nothingHeld
 none-facts = record { few = omega arith; start = omega arith; format = inl (omega arith) }
+
+-- ---- waiting
+
+none-held : (count bits : ℕ) → count ≡ 0 → HeldFacts (holding count bits) → holding count bits ≡ nothingHeld
+none-held zero bits z f = ap (holding 0) (let s : bits * 2 < 2 ^ 0 = f .start in omega arith)
+none-held (suc count) bits z f = absurd (omega arith)
+
+pub waiting-law : WaitingLaw
+unfolding isWaiting
+waiting-law h f = (λ e. none-held (h .count) (h .bits) (eqb-true (h .count) 0 e) f, λ e. rw e refl)
 
 pub held-law : HeldLaw
 held-law h = (

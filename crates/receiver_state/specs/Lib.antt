@@ -1,3 +1,5 @@
 pub mod State
+pub mod Shown
 pub mod WellFormed
 pub mod States
+pub mod Changes

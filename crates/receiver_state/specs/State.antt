@@ -1,6 +1,6 @@
 -- Document 01, "Registers": the fresh state, and states with one part changed. `Receiver` and its parts are the structs of src/lib.rt.
-use Prim.Native.Nat.{ℕ, _+_, _*_, _^_}
-use mathlib.Core.Bool.{cond}
+use Prim.Native.Nat.{ℕ, _+_, _*_, _%_, _^_}
+use mathlib.Core.Bool.{Bool, cond}
 use lib.Dec.{eqb, ltb}
 use Rattle.receiver_state.specs.declared.Ids.{Ids}
 use Rattle.receiver_state.specs.declared.Settings.{Settings}
@@ -39,6 +39,10 @@ holding count bits = record { count = count; bits = bits }
 abbrev pub nothingHeld : Held
 nothingHeld = holding 0 0
 
+-- the receiver waits for a start bit. `Waits` of the crate `channel_b` is 01's term, and `WaitsLaw` there says that the two agree.
+unfoldable pub isWaiting : Held → Bool
+isWaiting held = eqb (held .count) 0
+
 abbrev pub receiver : Core → Held → Receiver
 receiver core held = record { core = core; held = held }
 
@@ -66,9 +70,9 @@ withSequence new core =
 abbrev pub freshSettings : Settings
 freshSettings = record { fine1 = 0; fine2 = 0; coarse = 0; control = 0x93; config2 = 0x85; config3 = 0xA7 }
 
--- "Status bits 7 and 6 are 1, bits 4..0 are 0", and bit 5 is kept
+-- "Status bits 7 and 6 are 1, bits 4..0 are 0", and bit 5 is kept. The remainder makes a byte of every core; of a flag it is the flag.
 abbrev pub statusByte : Core → ℕ
-statusByte core = 2 ^ 7 + 2 ^ 6 + core .errors .status5 * 2 ^ 5
+statusByte core = 2 ^ 7 + 2 ^ 6 + core .errors .status5 % 2 * 2 ^ 5
 
 -- "all counters 0, .. no sequence"
 abbrev pub newCore : Ids → Settings → ℕ → Core
@@ -80,7 +84,7 @@ abbrev pub freshCore : Ids → Core
 freshCore own = newCore own freshSettings 1
 
 -- 01's term "fresh"; it is "waiting". `FreshLaws` of States.antt says that it is well formed for IDs in range,
--- and `FreshWaits` of the crate `receiver` that it waits.
+-- and `FreshWaits` of the crate `channel_b` that it waits.
 abbrev pub freshState : Ids → Receiver
 freshState own = receiver (freshCore own) nothingHeld
 

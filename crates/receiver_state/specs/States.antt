@@ -1,4 +1,4 @@
--- Document 01, "Well formed" and "Registers" (fresh): what holds of such states. Proved in proofs/States.antt, `HeldLaw` in proofs/HeldBits.antt.
+-- Document 01, "Well formed" and "Registers" (fresh): what holds of such states. Proved in proofs/States.antt, `HeldLaw` and `WaitingLaw` in proofs/HeldBits.antt.
 use Prim.Native.Nat.{ℕ, _/_, _-_, _^_, _<_, _≤_}
 use mathlib.Core.Path.{_≡_}
 use mathlib.Core.Logic.{_⊎_, _↔_}
@@ -9,7 +9,7 @@ use Rattle.frame.specs.Numbers.{frameBits, isFrame}
 use Rattle.receiver_state.specs.declared.Ids.{Ids}
 use Rattle.receiver_state.specs.declared.Held.{Held}
 use Rattle.receiver_state.specs.declared.Receiver.{Receiver}
-use Rattle.receiver_state.specs.State.{ids, nothingHeld, statusByte, freshCore, freshState, freshOf, refusedFresh, freshAnswer}
+use Rattle.receiver_state.specs.State.{ids, nothingHeld, isWaiting, statusByte, freshCore, freshState, freshOf, refusedFresh, freshAnswer}
 use Rattle.receiver_state.specs.WellFormed.{wellFormed, HeldFacts, ReceiverFacts}
 
 -- ---- well formed
@@ -30,6 +30,10 @@ pub record PartOf (kind : Kind) (h : Held) : Type 0 where
 -- the three tests of the held bits are the paper's words: "the receiver is waiting, or holds" such bits
 abbrev pub HeldLaw : Type 0
 HeldLaw = (h : Held) → HeldFacts h ↔ ((h ≡ nothingHeld) ⊎ (PartOf Short h ⊎ PartOf Long h))
+
+-- a receiver that waits holds nothing
+abbrev pub WaitingLaw : Type 0
+WaitingLaw = (h : Held) → HeldFacts h → (isWaiting h ≡ true) ↔ (h ≡ nothingHeld)
 
 -- ---- fresh
 

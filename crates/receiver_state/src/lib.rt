@@ -1,11 +1,13 @@
-// Document 01, "Registers" (fresh) and "Well formed": the state of a receiver.
+// Document 01, "Registers" (fresh) and "Well formed": the state of a receiver; "One clock": what a
+// clock shows.
 //
 // It goes by value: it is some 50 bytes of plain data, a refusal hands it back as it came, and a
 // caller may keep any copy. Its parts are nested by what changes together. A field that "Well
 // formed" has no clause for has a type that is exactly as wide as document 01's range, so that the
 // test has the paper's clauses and no others.
 ghost use mathlib.Core.Path.{_≡_};
-ghost use Rattle.receiver_state.specs.State.{receiver, nothingHeld, newCore, freshCore, freshOf, refusedFresh, freshAnswer};
+ghost use Rattle.receiver_state.specs.State.{receiver, nothingHeld, isWaiting, newCore, freshCore, freshOf, refusedFresh, freshAnswer};
+ghost use Rattle.receiver_state.specs.Shown.{noOutputs};
 ghost use Rattle.receiver_state.specs.WellFormed.{wellFormed};
 use form::core_ok;
 use form::held_ok;
@@ -77,6 +79,46 @@ pub struct Receiver {
 pub struct FreshAnswer {
     pub refusal: u8,
     pub receiver: Receiver,
+}
+
+// What a clock shows: trigger output and missed flag, the bus, and the frame that it finished.
+#[repr(C)]
+pub struct Outputs {
+    pub trigger: u8,
+    pub missed: u8,
+    pub strobe: u8,
+    pub number: u16,
+    pub verdict: u8,
+    pub corrected: u8,
+    pub word: u32,
+}
+
+// What a clock leaves of the core, and what it shows.
+pub struct Clocked {
+    pub core: Core,
+    pub outputs: Outputs,
+}
+
+// Every output 0.
+pub fn no_outputs() -> Outputs
+    ensures { λ r. ⌜ r ≡ noOutputs ⌝ }
+{
+    Outputs {
+        trigger: 0,
+        missed: 0,
+        strobe: 0,
+        number: 0,
+        verdict: 0,
+        corrected: 0,
+        word: 0,
+    }
+}
+
+// Whether the receiver waits for a start bit.
+pub fn is_waiting(held: Held) -> bool
+    ensures { λ r. ⌜ r ≡ isWaiting held ⌝ }
+{
+    held.count == 0
 }
 
 // Whether the state is one that a clock accepts.

@@ -6,9 +6,10 @@ use Rattle.receiver_state.specs.declared.Core.{Core}
 use Rattle.receiver_state.specs.declared.Receiver.{Receiver}
 use Rattle.receiver_state.specs.State.{receiver}
 use Rattle.receiver_state.specs.WellFormed.{wellFormed}
+use Rattle.register_map.specs.Map.{inMap, registerByte, readOnly, configWrong}
+use Rattle.register_map.specs.Change.{afterWrite}
 use Rattle.registers.specs.declared.ReadAnswer.{ReadAnswer}
 use Rattle.registers.specs.declared.WriteAnswer.{WriteAnswer}
-use Rattle.registers.specs.Map.{inMap, registerByte, readOnly, configWrong, written}
 
 -- ---- read
 
@@ -57,5 +58,5 @@ refusedWrite refusal r = record { refusal = refusal; receiver = r }
 unfoldable pub writeAnswer : Receiver → ℕ → ℕ → WriteAnswer
 writeAnswer r number value =
     cond (wellFormed r)
-    (cond (eqb (writeRefusal number value) 0) (writtenTo r (written (r .core) number value)) (refusedWrite (writeRefusal number value) r))
+    (cond (eqb (writeRefusal number value) 0) (writtenTo r (afterWrite (r .core) number value)) (refusedWrite (writeRefusal number value) r))
     (refusedWrite 2 r)

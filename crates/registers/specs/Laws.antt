@@ -1,56 +1,23 @@
 -- Document 01, "Registers": what holds of every register read and every register write. Proved in proofs/Laws.antt.
-use Prim.Native.Nat.{ℕ, _+_, _*_, _%_, _^_, _<_, _≤_}
+use Prim.Native.Nat.{ℕ, _%_, _^_, _<_}
 use mathlib.Core.Path.{_≡_}
 use mathlib.Core.Logic.{_≢_, _⊎_}
-use mathlib.Core.Bool.{true, false, not}
-use mathlib.Core.List.{List, [], _∷_}
-use Rattle.receiver_state.specs.declared.Settings.{Settings}
-use Rattle.receiver_state.specs.declared.Core.{Core}
+use mathlib.Core.Bool.{true, false}
 use Rattle.receiver_state.specs.declared.Receiver.{Receiver}
 use Rattle.receiver_state.specs.State.{errors, counters, withSettings, withErrors, withCounters}
-use Rattle.receiver_state.specs.WellFormed.{CoreFacts, wellFormed}
-use Rattle.fate.specs.Fate.{stored}
+use Rattle.receiver_state.specs.WellFormed.{wellFormed}
+use Rattle.register_map.specs.Map.{inMap, registerByte}
+use Rattle.register_map.specs.Change.{stored, withConfigs}
 use Rattle.registers.specs.declared.ReadAnswer.{ReadAnswer}
-use Rattle.registers.specs.Map.{oneOf, inMap, registerByte}
 use Rattle.registers.specs.Access.{byteAnswer, refusedRead, readAnswer, writtenTo, refusedWrite, writeAnswer}
 
--- ---- the numbers of the map
-
--- those below 29 that the table leaves out
-abbrev pub gaps : List ℕ
-gaps = 4 ∷ 5 ∷ 6 ∷ 7 ∷ 12 ∷ 13 ∷ 14 ∷ 15 ∷ 19 ∷ 23 ∷ []
-
-pub record MapLaws : Type 0 where
-  pub below-29 : (number : ℕ) → number < 29 → inMap number ≡ not (oneOf gaps number)
-  pub from-29 : (number : ℕ) → 29 ≤ number → inMap number ≡ false
-
--- ---- reads
+-- ---- reads; what each register holds is in `ByteLaws` of the crate `register_map`
 
 pub record ReadLaws : Type 0 where
   pub refused-by-2 : (r : Receiver) (number : ℕ) → wellFormed r ≡ false → readAnswer r number ≡ refusedRead 2
   pub refused-by-5 : (r : Receiver) (number : ℕ) → wellFormed r ≡ true → inMap number ≡ false → readAnswer r number ≡ refusedRead 5
   pub accepted : (r : Receiver) (number : ℕ) → wellFormed r ≡ true → inMap number ≡ true
       → readAnswer r number ≡ byteAnswer 0 (registerByte (r .core) number)
-  -- "low byte first": the bytes of a number, put together again
-  pub single-bytes : (core : Core) → core .errors .single < 2 ^ 16 → registerByte core 8 + registerByte core 9 * 2 ^ 8 ≡ core .errors .single
-  pub id-bytes : (core : Core) → CoreFacts core → registerByte core 16 + registerByte core 17 * 2 ^ 8 ≡ core .ids .id
-  pub bunch-bytes : (core : Core) → CoreFacts core → registerByte core 24 + registerByte core 25 * 2 ^ 8 ≡ core .counters .bunch
-  pub event-bytes : (core : Core) → CoreFacts core
-      → registerByte core 26 + registerByte core 27 * 2 ^ 8 + registerByte core 28 * 2 ^ 16 ≡ core .counters .event
-  -- each but the last of them is a byte
-  pub lower-bytes : (core : Core) → let byte = registerByte core in
-      (byte 8 < 2 ^ 8) × (byte 16 < 2 ^ 8) × (byte 24 < 2 ^ 8) × (byte 26 < 2 ^ 8) × (byte 27 < 2 ^ 8)
-  pub setting-bytes : (core : Core) → let byte = registerByte core in
-      (byte 0 ≡ core .settings .fine1) × (byte 1 ≡ core .settings .fine2) × (byte 2 ≡ core .settings .coarse) × (byte 3 ≡ core .settings .control)
-  pub config-bytes : (core : Core) → (registerByte core 20 ≡ core .settings .config2) × (registerByte core 21 ≡ core .settings .config3)
-  pub double-byte : (core : Core) → registerByte core 10 ≡ core .errors .double
-  pub upset-0 : (core : Core) → registerByte core 11 ≡ 0
-  pub i2c-byte : (core : Core) → registerByte core 18 ≡ core .ids .i2c
-  -- "Status bits 7 and 6 are 1, bits 4..0 are 0."
-  pub status-set : (core : Core) → core .errors .status5 ≡ 1 → registerByte core 22 ≡ 0xE0
-  pub status-cleared : (core : Core) → core .errors .status5 ≡ 0 → registerByte core 22 ≡ 0xC0
-  -- "ID high 6 bits"
-  pub id-high-6 : (core : Core) → CoreFacts core → registerByte core 17 < 2 ^ 6
 
 -- ---- writes
 
@@ -70,11 +37,6 @@ ReadOnly n = (n ≡ 16) ⊎ ((n ≡ 17) ⊎ ((n ≡ 18) ⊎ (n ≡ 22)))
 -- the byte differs from the fresh one, 0x85 or 0xA7, in bits 6..0
 abbrev pub ConfigDiffers : ℕ → ℕ → Type 0
 ConfigDiffers n value = ((n ≡ 20) × (value % 2 ^ 7 ≢ 0x85 % 2 ^ 7)) ⊎ ((n ≡ 21) × (value % 2 ^ 7 ≢ 0xA7 % 2 ^ 7))
-
--- the settings with these Config bytes
-abbrev pub withConfigs : ℕ → ℕ → Settings → Settings
-withConfigs config2 config3 now =
-    record { fine1 = now .fine1; fine2 = now .fine2; coarse = now .coarse; control = now .control; config2 = config2; config3 = config3 }
 
 -- each write that is not refused, by the whole state that it leaves: the parts named are changed, and nothing else
 pub record WriteLaws : Type 0 where

@@ -1,17 +1,16 @@
-// Document 01, "Registers": register reads and register writes between clocks.
+// Document 01, "Registers": register reads and register writes between clocks: checks and refusals.
+// What a register holds, and what a write does, is in `register_map`.
 //
 // The state goes by value, in and out: see `receiver_state`.
 ghost use mathlib.Core.Path.{_≡_};
-ghost use Rattle.registers.specs.Access.{refusedRead, readAnswer, refusedWrite, writeAnswer};
-use change::write_core;
-use map::read_refusal;
-use map::register_byte;
-use map::write_refusal;
+ghost use Rattle.registers.specs.Access.{readRefusal, refusedRead, readAnswer, writeRefusal, refusedWrite, writeAnswer};
 use receiver_state::Receiver;
 use receiver_state::well_formed;
-
-mod change;
-mod map;
+use register_map::config_wrong;
+use register_map::in_map;
+use register_map::read_only;
+use register_map::register_byte;
+use register_map::write_byte;
 
 #[repr(C)]
 pub struct ReadAnswer {
@@ -23,6 +22,30 @@ pub struct ReadAnswer {
 pub struct WriteAnswer {
     pub refusal: u8,
     pub receiver: Receiver,
+}
+
+fn read_refusal(number: u8) -> u8
+    ensures { λ r. ⌜ r ≡ readRefusal number ⌝ }
+{
+    if in_map(number) {
+        return 0;
+    }
+    5
+}
+
+fn write_refusal(number: u8, value: u8) -> u8
+    ensures { λ r. ⌜ r ≡ writeRefusal number value ⌝ }
+{
+    if !in_map(number) {
+        return 5;
+    }
+    if read_only(number) {
+        return 6;
+    }
+    if config_wrong(number, value) {
+        return 7;
+    }
+    0
 }
 
 // A refused read: the byte is 0.
@@ -65,7 +88,7 @@ pub fn write(receiver: Receiver, number: u8, value: u8) -> WriteAnswer
     if refusal != 0 {
         return refuse_write(refusal, receiver);
     }
-    let core = write_core(receiver.core, number, value);
+    let core = write_byte(receiver.core, number, value);
     let mut next = receiver;
     next.core = core;
     WriteAnswer {

@@ -7,17 +7,17 @@ ghost use Rattle.frame.specs.declared.Kind.the-variants.{Short, Long};
 ghost use Rattle.frame.specs.Encode.{encodeShort, encodeLong};
 ghost use Rattle.frame.specs.Decode.{decodeFrame};
 ghost use Rattle.stored_line.specs.Read.{readLine, lineAnswer};
-ghost use Rattle.stored_line.specs.Write.{written, writeLine};
+ghost use Rattle.stored_line.specs.Write.{writeDone, writeLine};
 ghost use Rattle.fine_delay.specs.Delay.{settingToByte, byteToSetting};
 ghost use Rattle.receiver_state.specs.State.{freshAnswer};
 ghost use Rattle.receiver_state.specs.WellFormed.{wellFormed};
-ghost use Rattle.fate.specs.Fate.{columnsOf};
+ghost use Rattle.frame.specs.Columns.{columnsOf};
 ghost use Rattle.receiver.specs.Clock.{clockAnswer};
 ghost use Rattle.whole_frame.specs.WholeFrame.{receiveAnswer};
-ghost use Rattle.receiver.specs.Block.{blockDone, runBlock};
-ghost use Rattle.trace_records.specs.Filled.{filledLength};
+ghost use Rattle.trace.specs.Block.{blockDone, runBlock};
+ghost use Rattle.trace.specs.Filled.{filledLength};
 ghost use Rattle.registers.specs.Access.{readAnswer, writeAnswer};
-ghost use Rattle.line_report.specs.Report.{startReport, filled, reportInput, reportEnd};
+ghost use Rattle.line_report.specs.Report.{startReport, reportDone, reportInput, reportEnd};
 use fine_delay::DelayByte;
 use fine_delay::DelaySetting;
 use fine_delay::delay_byte;
@@ -35,7 +35,6 @@ use line_report::report_end;
 use line_report::report_input;
 use line_report::start_report;
 use receiver::ClockAnswer;
-use receiver::block::run_block;
 use receiver::clock;
 use receiver_state::FreshAnswer;
 use receiver_state::Receiver;
@@ -50,7 +49,8 @@ use stored_line::Written;
 use stored_line::line_answer;
 use stored_line::read_line;
 use stored_line::write_line;
-use trace_records::filled_length;
+use trace::filled_length;
+use trace::run_block;
 use whole_frame::receive_frame;
 
 // What a block answers a caller who lends the receiver.
@@ -97,14 +97,14 @@ pub extern "C" fn ttcrx_read_line(characters: &[u8]) -> LineAnswer
 
 #[no_mangle]
 pub extern "C" fn ttcrx_write_short(number: u64, buffer: &mut [u8]) -> Written
-    ensures { λ r. ⌜ written r (now (buffer .exit)) ≡ writeLine Short number (now (buffer .entry)) ⌝ }
+    ensures { λ r. ⌜ writeDone r (now (buffer .exit)) ≡ writeLine Short number (now (buffer .entry)) ⌝ }
 {
     write_line(Kind::Short, number, buffer)
 }
 
 #[no_mangle]
 pub extern "C" fn ttcrx_write_long(number: u64, buffer: &mut [u8]) -> Written
-    ensures { λ r. ⌜ written r (now (buffer .exit)) ≡ writeLine Long number (now (buffer .entry)) ⌝ }
+    ensures { λ r. ⌜ writeDone r (now (buffer .exit)) ≡ writeLine Long number (now (buffer .entry)) ⌝ }
 {
     write_line(Kind::Long, number, buffer)
 }
@@ -176,7 +176,7 @@ pub extern "C" fn ttcrx_receive_long(receiver: Receiver, number: u64) -> ClockAn
 }
 
 // The one function over a lent receiver: the board service keeps its receiver for weeks. The copy is
-// taken and stored once a block.
+// taken once a block, and stored where the block was accepted: a refused one writes no byte of it.
 #[no_mangle]
 pub extern "C" fn ttcrx_run_block(
     receiver: &mut Receiver,
@@ -186,7 +186,9 @@ pub extern "C" fn ttcrx_run_block(
     ensures { λ r. ⌜ blockDone (record { refusal = r .refusal; receiver = now (receiver .exit); records = r .records }) (now (buffer .exit)) ≡ runBlock columnsOf (now (receiver .entry)) (now (block .entry)) (now (buffer .entry)) ⌝ }
 {
     let answer = run_block(*receiver, block, buffer);
-    *receiver = answer.receiver;
+    if answer.refusal == 0 {
+        *receiver = answer.receiver;
+    }
     BlockOutcome {
         refusal: answer.refusal,
         records: answer.records,
@@ -210,14 +212,14 @@ pub extern "C" fn ttcrx_report_start() -> Report
 
 #[no_mangle]
 pub extern "C" fn ttcrx_report_input(report: Report, input: &[u8], buffer: &mut [u8]) -> Reported
-    ensures { λ r. ⌜ filled r (now (buffer .exit)) ≡ reportInput columnsOf report (now (input .entry)) (now (buffer .entry)) ⌝ }
+    ensures { λ r. ⌜ reportDone r (now (buffer .exit)) ≡ reportInput columnsOf report (now (input .entry)) (now (buffer .entry)) ⌝ }
 {
     report_input(report, input, buffer)
 }
 
 #[no_mangle]
 pub extern "C" fn ttcrx_report_end(report: Report, buffer: &mut [u8]) -> Reported
-    ensures { λ r. ⌜ filled r (now (buffer .exit)) ≡ reportEnd columnsOf report (now (buffer .entry)) ⌝ }
+    ensures { λ r. ⌜ reportDone r (now (buffer .exit)) ≡ reportEnd columnsOf report (now (buffer .entry)) ⌝ }
 {
     report_end(report, buffer)
 }

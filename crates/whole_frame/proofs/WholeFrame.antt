@@ -1,31 +1,24 @@
--- A frame's bits, the first sent first, and the clocks that carry them. Assumes nothing.
-use mathlib.Core.Path.{_≡_, refl, sym, ap, _∙_}
-use mathlib.Core.List.{List, [], _∷_, _++_}
-use Prim.Native.Nat.{ℕ, zero, suc, _+_, _/_, _%_, _^_}
-use native.Mathlib.Nat.{div-one}
-use native.Mathlib.Omega.{arith}
-use lib.Pow.{shr-shr}
+-- The clocks that carry a frame's bits, one more at a time. Assumes nothing.
+use mathlib.Core.Path.{_≡_, sym, ap, _∙_}
+use mathlib.Core.List.{List}
+use Prim.Native.Nat.{ℕ, suc, _/_, _%_, _^_}
+use native.Mathlib.Nat.{mod-lt}
+use lib.Dec.{lit<}
 use Rattle.frame.specs.declared.Kind.{Kind}
+use Rattle.frame.specs.Bits.{bitsOf}
+use Rattle.frame.proofs.Bits.{bits-law}
+use Rattle.receiver_state.specs.WellFormed.{ReceiverFacts}
 use Rattle.receiver.specs.declared.ClockAnswer.{ClockAnswer}
-use Rattle.receiver.specs.Clock.{clockAnswer}
-use Rattle.whole_frame.specs.WholeFrame.{bitsOf, clocksAnswer}
+use Rattle.receiver.specs.Clock.{stepAnswer, clockAnswer}
+use Rattle.receiver.proofs.Unchecked.{step-is-clock}
+use Rattle.whole_frame.specs.WholeFrame.{clocksAnswer}
 
--- the first bit sent is the most significant of them
-pub first-bit : (n number : ℕ) → bitsOf (suc n) number ≡ number / 2 ^ n % 2 ∷ bitsOf n number
-unfolding bitsOf
-first-bit zero number = rw (div-one number) refl
-first-bit (suc n) number =
-    ap (λ (bits : List ℕ). bits ++ (number % 2 ∷ [])) (first-bit n (number / 2))
-    ∙ ap (λ (bit : ℕ). bit % 2 ∷ bitsOf (suc n) number) (shr-shr number 1 n ∙ ap (λ (k : ℕ). number / 2 ^ k) (one-first n))
-  where
-    one-first : (k : ℕ) → 1 + k ≡ suc k
-    one-first k = omega arith
-
--- one clock more, with the first of the bits left
-pub clock-more : (columns : Kind → List ℕ) (before after : ClockAnswer) (n number bit : ℕ) → bit ≡ number / 2 ^ n % 2
-    → after ≡ clockAnswer columns (before .receiver) 0 bit
+-- one clock more, by the unchecked step, with the first of the bits left
+pub clock-more : (columns : Kind → List ℕ) (before after : ClockAnswer) (n number bit : ℕ) → ReceiverFacts (before .receiver) → bit ≡ number / 2 ^ n % 2
+    → after ≡ stepAnswer columns (before .receiver) 0 bit
     → clocksAnswer columns after (bitsOf n number) ≡ clocksAnswer columns before (bitsOf (suc n) number)
 unfolding clocksAnswer
-clock-more columns before after n number bit b e =
-    ap (λ (answer : ClockAnswer). clocksAnswer columns answer (bitsOf n number)) (e ∙ ap (clockAnswer columns (before .receiver) 0) b)
-    ∙ ap (clocksAnswer columns before) (sym (first-bit n number))
+clock-more columns before after n number bit f b e =
+    ap (λ (answer : ClockAnswer). clocksAnswer columns answer (bitsOf n number))
+    (e ∙ ap (stepAnswer columns (before .receiver) 0) b ∙ step-is-clock columns (before .receiver) 0 _ f (lit< tt) (mod-lt _ (lit< tt)))
+    ∙ ap (clocksAnswer columns before) (sym (bits-law .first n number))

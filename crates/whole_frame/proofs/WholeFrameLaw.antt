@@ -1,39 +1,38 @@
--- A whole frame on a receiver that waits has its fate. Assumes nothing.
-use mathlib.Core.Path.{_≡_, refl, sym, subst}
+-- A whole frame on a receiver that waits is the one that finishes. Assumes nothing.
+use mathlib.Core.Path.{_≡_, sym, subst}
 use mathlib.Core.Bool.{true}
 use mathlib.Core.List.{List, [], _∷_}
 use Prim.Native.Nat.{ℕ}
 use Rattle.laws.proofs.Rules.{picked}
 use Rattle.frame.specs.declared.Kind.{Kind}
 use Rattle.frame.specs.Numbers.{frameBits, isFrame}
+use Rattle.frame.specs.Columns.{columnsOf, GoodTables}
+use Rattle.frame.specs.Bits.{bitsOf}
+use Rattle.frame.proofs.Columns.{tables-good}
 use Rattle.receiver_state.specs.declared.Receiver.{Receiver}
 use Rattle.receiver_state.specs.WellFormed.{wellFormed}
 use Rattle.receiver_state.proofs.WellFormed.{receiver-facts}
-use Rattle.fate.specs.Fate.{columnsOf}
-use Rattle.fate.specs.Laws.{GoodTables}
-use Rattle.fate.proofs.Laws.{fate-theorem, tables-good}
+use Rattle.channel_b.specs.TakeBit.{Waits}
+use Rattle.channel_b.proofs.Laws.{waits-law, after-frame}
+use Rattle.verdicts.proofs.Laws.{not-zero}
 use Rattle.receiver.specs.declared.ClockAnswer.{ClockAnswer}
-use Rattle.receiver.specs.TakeBit.{Waits}
 use Rattle.receiver.specs.Clock.{clockAnswer}
-use Rattle.whole_frame.specs.WholeFrame.{bitsOf, clocksAnswer, noClock, receiveAnswer, HasItsFate, SomeVerdict, WholeFrameTheorem, ReceiverWholeFrames}
-use Rattle.receiver.proofs.Bits.{bit-law}
-use Rattle.whole_frame.proofs.AtOnce.{at-once}
 use Rattle.receiver.proofs.Laws.{clock-theorem}
+use Rattle.whole_frame.specs.WholeFrame.{clocksAnswer, noClock, receiveAnswer, SentFrameFinishes, SomeVerdict, WholeFrameTheorem, ReceiverWholeFrames}
+use Rattle.whole_frame.proofs.AtOnce.{at-once}
 
 module _ (columns : Kind → List ℕ) (good : GoodTables columns) where
-  has-its-fate : HasItsFate columns
+  sent-frame-finishes : SentFrameFinishes columns
   unfolding receiveAnswer
-  has-its-fate r kind number w waits e = rw (w, e) (at-once columns r kind number (receiver-facts r w) (waits .none-held) e)
+  sent-frame-finishes r kind number w waits e = rw (w, e) (at-once columns r kind number (receiver-facts r w) (waits-law .is-waiting r .0 waits) e)
 
-  finishes : SomeVerdict columns
-  finishes r kind number w waits e =
-      rw (has-its-fate r kind number w waits e) (fate-theorem columns good .not-zero kind number _)
+  some-verdict : SomeVerdict columns
+  some-verdict r kind number w waits e = rw (sent-frame-finishes r kind number w waits e) (not-zero columns kind number _)
 
   waits-again : (r : Receiver) (kind : Kind) (number : ℕ) → wellFormed r ≡ true → Waits r → isFrame kind number ≡ true
       → Waits (receiveAnswer columns r kind number .receiver)
   waits-again r kind number w waits e =
-      subst (λ (a : ClockAnswer). Waits (a .receiver)) (sym (has-its-fate r kind number w waits e))
-      (record { none-held = refl; start-next = bit-law .start-bit })
+      subst (λ (a : ClockAnswer). Waits (a .receiver)) (sym (sent-frame-finishes r kind number w waits e)) (after-frame .waits _ kind number)
 
   clocks-stay : (before : ClockAnswer) (bits : List ℕ) → wellFormed (before .receiver) ≡ true → wellFormed (clocksAnswer columns before bits .receiver) ≡ true
   unfolding clocksAnswer
@@ -51,8 +50,8 @@ module _ (columns : Kind → List ℕ) (good : GoodTables columns) where
 pub whole-frame-theorem : WholeFrameTheorem
 whole-frame-theorem columns good =
     record {
-      has-its-fate = has-its-fate columns good;
-      finishes = finishes columns good;
+      sent-frame-finishes = sent-frame-finishes columns good;
+      some-verdict = some-verdict columns good;
       waits-again = waits-again columns good;
       stays-well-formed = stays columns good;
     }

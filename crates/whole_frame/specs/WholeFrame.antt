@@ -1,26 +1,23 @@
 -- Document 01, "Frames on channel B" and "One clock": a whole frame sent to a receiver, one bit a clock, without triggers.
-use Prim.Native.Nat.{ℕ, zero, suc, _+_, _/_, _%_}
+use Prim.Native.Nat.{ℕ}
 use mathlib.Core.Path.{_≡_}
 use mathlib.Core.Logic.{_≢_}
 use mathlib.Core.Bool.{true, cond}
-use mathlib.Core.List.{List, [], _∷_, _++_}
+use mathlib.Core.List.{List, [], _∷_}
 use Rattle.frame.specs.declared.Kind.{Kind}
 use Rattle.frame.specs.Numbers.{frameBits, isFrame}
+use Rattle.frame.specs.Columns.{columnsOf, GoodTables}
+use Rattle.frame.specs.Bits.{bitsOf}
 use Rattle.receiver_state.specs.declared.Core.{Core}
+use Rattle.receiver_state.specs.declared.Clocked.{Clocked}
 use Rattle.receiver_state.specs.declared.Receiver.{Receiver}
-use Rattle.receiver_state.specs.State.{counters, noSequence, nothingHeld, withCounters, withSequence}
+use Rattle.receiver_state.specs.Shown.{noOutputs}
 use Rattle.receiver_state.specs.WellFormed.{wellFormed}
-use Rattle.fate.specs.declared.Clocked.{Clocked}
-use Rattle.fate.specs.Fate.{columnsOf}
-use Rattle.fate.specs.Laws.{finishedBy, GoodTables}
+use Rattle.idle_clock.specs.AtRest.{settled, restFor}
+use Rattle.channel_b.specs.TakeBit.{heldAfter, Waits}
+use Rattle.verdicts.specs.Finished.{finishedBy}
 use Rattle.receiver.specs.declared.ClockAnswer.{ClockAnswer}
-use Rattle.receiver.specs.TakeBit.{Waits}
-use Rattle.receiver.specs.Clock.{noOutputs, clockedAnswer, refusedClock, clockAnswer}
-
--- the n low bits of a number, "first bit sent = most significant"
-unfoldable pub bitsOf : ℕ → ℕ → List ℕ
-bitsOf zero number = []
-bitsOf (suc n) number = bitsOf n (number / 2) ++ (number % 2 ∷ [])
+use Rattle.receiver.specs.Clock.{clockedAnswer, refusedClock, clockAnswer}
 
 -- clocks with these bits on channel B and trigger bit 0, each on the state that the one before left: the answer of the last, or with no bit the
 -- answer given
@@ -43,18 +40,17 @@ receiveAnswer columns r kind number =
 
 -- ---- on a receiver that waits
 
--- three or more clocks without triggers that finish no frame: the bunch counter is at this number, and no sequence is left
-abbrev pub stillClocked : ℕ → Core → Clocked
-stillClocked bunch core =
-    record { core = withSequence noSequence (withCounters (counters bunch (core .counters .event)) core); outputs = noOutputs }
+-- so many clocks without triggers that finish no frame, more than what was under way lasts: the bunch counter moves on, and nothing is shown
+abbrev pub settledClock : ℕ → Core → Clocked
+settledClock clocks core = record { core = restFor clocks (settled core); outputs = noOutputs }
 
 module _ (columns : Kind → List ℕ) where
-  -- the frame that is sent is the one that finishes, with its fate
-  abbrev pub HasItsFate : Type 0
-  HasItsFate =
+  -- the frame that is sent is the one that finishes, with the verdict and the effect of its row
+  abbrev pub SentFrameFinishes : Type 0
+  SentFrameFinishes =
       (r : Receiver) (kind : Kind) (number : ℕ) → wellFormed r ≡ true → Waits r → isFrame kind number ≡ true
       → receiveAnswer columns r kind number
-      ≡ clockedAnswer nothingHeld (finishedBy columns kind number (stillClocked ((r .core .counters .bunch + frameBits kind) % 4096) (r .core)))
+      ≡ clockedAnswer (heldAfter kind number) (finishedBy columns kind number (settledClock (frameBits kind) (r .core)))
 
   abbrev pub SomeVerdict : Type 0
   SomeVerdict =
@@ -63,8 +59,8 @@ module _ (columns : Kind → List ℕ) where
 
 -- and the receiver then waits again. Proved in proofs/WholeFrameLaw.antt.
 pub record WholeFrameLaw (columns : Kind → List ℕ) : Type 0 where
-  pub has-its-fate : HasItsFate columns
-  pub finishes : SomeVerdict columns
+  pub sent-frame-finishes : SentFrameFinishes columns
+  pub some-verdict : SomeVerdict columns
   pub waits-again : (r : Receiver) (kind : Kind) (number : ℕ) → wellFormed r ≡ true → Waits r → isFrame kind number ≡ true
       → Waits (receiveAnswer columns r kind number .receiver)
   -- waiting or not, refused or not

@@ -1,27 +1,34 @@
 // Document 01, "Frames on channel B" and "One clock": a whole frame sent to a receiver in one call.
 //
-// The state goes by value, in and out: see `receiver_state`.
+// The state goes by value, in and out: see `receiver_state`. Columns are only read, and are lent: the
+// public function passes document 01's table down.
 ghost use mathlib.Core.Path.{_≡_};
 ghost use mathlib.Core.Bool.{true};
-ghost use Prim.Native.Nat.{_+_, _<_, _≤_, _/_, _%_, _^_};
+ghost use Prim.Native.Nat.{_<_, _≤_, _/_, _%_, _^_};
+ghost use Rattle.hamming.specs.Code.{inUse};
 ghost use Rattle.frame.specs.Numbers.{frameBits, isFrame};
-ghost use Rattle.receiver_state.specs.WellFormed.{CountersFacts, ReceiverFacts};
-ghost use Rattle.fate.specs.Fate.{columnsOf};
-ghost use Rattle.whole_frame.specs.WholeFrame.{bitsOf, clocksAnswer, noClock, receiveAnswer, stillClocked};
-use fate::Clocked;
-use fate::Outputs;
-use fate::finish;
+ghost use Rattle.frame.specs.Columns.{columnsFor, columnsOf};
+ghost use Rattle.frame.specs.Bits.{bitsOf};
+ghost use Rattle.receiver_state.specs.State.{isWaiting};
+ghost use Rattle.receiver_state.specs.WellFormed.{ReceiverFacts};
+ghost use Rattle.whole_frame.specs.WholeFrame.{clocksAnswer, noClock, receiveAnswer};
+use channel_b::held_after;
 use frame::Kind;
+use frame::decode_finished;
+use frame::frame_bits;
 use frame::is_frame;
+use hamming::column_table;
+use idle_clock::rest_for;
+use idle_clock::settle;
 use receiver::ClockAnswer;
-use receiver::clock;
 use receiver::refuse_clock;
-use receiver_state::Core;
-use receiver_state::Counters;
-use receiver_state::Held;
+use receiver::step;
+use receiver_state::Clocked;
 use receiver_state::Receiver;
-use receiver_state::Sequence;
+use receiver_state::is_waiting;
+use receiver_state::no_outputs;
 use receiver_state::well_formed;
+use verdicts::finish;
 
 // The bit of a number at a place, 0 the least.
 fn bit_at(number: u64, place: u8) -> u8
@@ -31,21 +38,17 @@ fn bit_at(number: u64, place: u8) -> u8
     ((number >> place) % 2) as u8
 }
 
-// How many bits such a frame has.
-fn frame_bits(kind: Kind) -> u8
-    ensures { λ r. ⌜ r ≡ frameBits kind ⌝ }
-{
-    match kind {
-        Kind::Short => 16,
-        Kind::Long => 42,
-    }
-}
-
-// So many bits of a number, one a clock, without triggers. Each clock checks the state: the unchecked
-// step is private to `receiver`. This is for receivers that hold bits of another frame.
-fn receive_bits(receiver: Receiver, count: u8, number: u64) -> ClockAnswer
-    requires { ⌜ count ≤ 64 ⌝ }
-    ensures { λ r. ⌜ r ≡ clocksAnswer columnsOf (noClock receiver) (bitsOf count number) ⌝ }
+// So many bits of a number, one a clock, without triggers, on a state that is known to be well formed.
+// This is for receivers that hold bits of another frame.
+fn receive_bits(
+    short: &[u8],
+    long: &[u8],
+    receiver: Receiver,
+    count: u8,
+    number: u64,
+) -> ClockAnswer
+    requires { ⌜ (ReceiverFacts receiver) × (count ≤ 64) ⌝ }
+    ensures { λ r. ⌜ r ≡ clocksAnswer (columnsFor (inUse (now (short .entry))) (inUse (now (long .entry)))) (noClock receiver) (bitsOf count number) ⌝ }
 {
     // No clock yet: number 0, the state as given, and no outputs.
     let mut answer = refuse_clock(0, receiver);
@@ -53,54 +56,35 @@ fn receive_bits(receiver: Receiver, count: u8, number: u64) -> ClockAnswer
     while left > 0 {
         left -= 1;
         let bit = bit_at(number, left);
-        answer = clock(answer.receiver, 0, bit);
+        answer = step(short, long, answer.receiver, 0, bit);
     }
     answer
 }
 
-// What a frame's clocks leave and show before it acts, if nothing else goes on.
-fn still_clocks(core: Core, clocks: u8) -> Clocked
-    requires { ⌜ CountersFacts (core .counters) ⌝ }
-    ensures { λ r. ⌜ r ≡ stillClocked ((core .counters .bunch + clocks) % 4096) core ⌝ }
+// A whole frame on a receiver that waits: its clocks before the last only count, and end what was
+// under way, so they are done at once.
+fn receive_waiting(
+    short: &[u8],
+    long: &[u8],
+    receiver: Receiver,
+    kind: Kind,
+    number: u64,
+) -> ClockAnswer
+    requires { ⌜ (ReceiverFacts receiver) × (isWaiting (receiver .held) ≡ true) × (isFrame kind number ≡ true) ⌝ }
+    ensures { λ r. ⌜ r ≡ clocksAnswer (columnsFor (inUse (now (short .entry))) (inUse (now (long .entry)))) (noClock receiver) (bitsOf (frameBits kind) number) ⌝ }
 {
-    let counters = Counters {
-        bunch: (core.counters.bunch + clocks as u16) % 0x1000,
-        event: core.counters.event,
-    };
-    let sequence = Sequence { left: 0, event: 0 };
-    let mut next = core;
-    next.counters = counters;
-    next.sequence = sequence;
-    let outputs = Outputs {
-        trigger: 0,
-        missed: 0,
-        strobe: 0,
-        number: 0,
-        verdict: 0,
-        corrected: 0,
-        word: 0,
-    };
-    Clocked {
-        core: next,
-        outputs,
-    }
-}
-
-// A whole frame on a receiver that waits: its clocks before the last only count, and end a running
-// sequence, so they are done at once.
-fn receive_waiting(receiver: Receiver, kind: Kind, number: u64) -> ClockAnswer
-    requires { ⌜ (ReceiverFacts receiver) × (receiver .held .count ≡ 0) × (isFrame kind number ≡ true) ⌝ }
-    ensures { λ r. ⌜ r ≡ clocksAnswer columnsOf (noClock receiver) (bitsOf (frameBits kind) number) ⌝ }
-{
-    let still = still_clocks(receiver.core, frame_bits(kind));
-    let clocked = finish(kind, number, still);
+    let core = rest_for(settle(receiver.core), frame_bits(kind) as usize);
+    let outputs = no_outputs();
+    let idle = Clocked { core, outputs };
+    let frame = decode_finished(short, long, kind, number);
+    let clocked = finish(kind, frame, idle);
     let core = clocked.core;
     let outputs = clocked.outputs;
-    let held = Held { count: 0, bits: 0 };
-    let waiting = Receiver { core, held };
+    let held = held_after(kind, number);
+    let after = Receiver { core, held };
     ClockAnswer {
         refusal: 0,
-        receiver: waiting,
+        receiver: after,
         outputs,
     }
 }
@@ -115,8 +99,10 @@ pub fn receive_frame(receiver: Receiver, kind: Kind, number: u64) -> ClockAnswer
     if !is_frame(kind, number) {
         return refuse_clock(12, receiver);
     }
-    if receiver.held.count == 0 {
-        return receive_waiting(receiver, kind, number);
+    let short = column_table();
+    let long = column_table();
+    if is_waiting(receiver.held) {
+        return receive_waiting(&short[..8], &long, receiver, kind, number);
     }
-    receive_bits(receiver, frame_bits(kind), number)
+    receive_bits(&short[..8], &long, receiver, frame_bits(kind), number)
 }

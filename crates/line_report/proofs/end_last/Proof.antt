@@ -2,7 +2,7 @@
 use mathlib.Core.Path.{refl, ap, _∙_}
 use native.Mathlib.Omega.{arith}
 use borrow.Author.Tests.{eq-eqb, ne-eqb}
-use Rattle.fate.specs.Fate.{columnsOf}
+use Rattle.frame.specs.Columns.{columnsOf}
 use Rattle.line_report.specs.Report.{readPart, lineEnded, afterLast, lastPrints}
 use Rattle.line_report.proofs.Bounds.{part-small, line-length}
 use mathlib.Core.Path.{refl, sym, ap, _∙_}

@@ -2,7 +2,7 @@
 use mathlib.Core.Path.{refl}
 use native.Mathlib.Omega.{arith}
 use borrow.Author.Tests.{lt-ltb}
-use Rattle.fate.specs.Fate.{columnsOf}
+use Rattle.frame.specs.Columns.{columnsOf}
 use Rattle.line_report.specs.Report.{longestEnd, endWork}
 use Rattle.line_report.proofs.Turn.{counts-room, written-below, all-ended}
 use mathlib.Core.Path.{_≡_, refl, sym, ap, _∙_}

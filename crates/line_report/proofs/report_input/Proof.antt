@@ -3,7 +3,7 @@ use mathlib.Core.Path.{_≡_, refl, sym, _∙_}
 use Prim.Native.Nat.{_-_, _≤_}
 use native.Mathlib.Omega.{arith}
 use lib.ListN.{length}
-use Rattle.fate.specs.Fate.{columnsOf}
+use Rattle.frame.specs.Columns.{columnsOf}
 use Rattle.line_report.specs.Turn.{finishedFrom}
 use Rattle.line_report.proofs.Turn.{all-to-do, used-up, no-more-room}
 use mathlib.Core.Path.{_≡_, refl, sym, ap, _∙_}

@@ -4,7 +4,7 @@ use Prim.Native.Nat.{_≤_}
 use native.Mathlib.Omega.{arith}
 use lib.ListN.{length}
 use lib.Seq.{length-take-le}
-use Rattle.fate.specs.Fate.{columnsOf}
+use Rattle.frame.specs.Columns.{columnsOf}
 use Rattle.line_report.proofs.Turn.{until-le, restRead, code-end, code-within, code-room, code-feed}
 use mathlib.Core.Path.{sym}
 use lib.ListN.{length-take}

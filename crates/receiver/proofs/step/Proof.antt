@@ -1,7 +1,5 @@
 -- `receiver::step` meets its contract: it goes by what the bit leaves. Assumes nothing.
-use mathlib.Core.Path.{sym, ap, _∙_}
-use Rattle.receiver_state.specs.State.{nothingHeld}
-use Rattle.fate.specs.Fate.{columnsOf}
+use mathlib.Core.Path.{sym, ap, ap₂, _∙_}
 use Rattle.receiver.specs.Clock.{clockedAnswer}
 use Rattle.receiver.proofs.Unchecked.{unfinished-step, finished-step}
 use borrow.Author.Needs.{needs}
@@ -26,8 +24,14 @@ enum-known-taken-2 c = search needs
 idle-clock-requires-2 : tie.Need-idle-clock-requires-2
 idle-clock-requires-2 c κs = search needs
 
+decode-finished-requires : tie.Need-decode-finished-requires
+decode-finished-requires c κs = search needs
+
 finish-requires : tie.Need-finish-requires
 finish-requires c κs = search needs
+
+held-after-requires : tie.Need-held-after-requires
+held-after-requires c κs = search needs
 
 answered-requires-2 : tie.Need-answered-requires-2
 answered-requires-2 c κs = search needs
@@ -35,17 +39,18 @@ answered-requires-2 c κs = search needs
 returns : tie.Need-returns
 returns c =
     let bit = c .before .before .before .before .before in
-    let given = bit .before .args in
+    let given = bit .before .before .before .args in
     c .answered .ensures ∙ ap (clockedAnswer _) (c .before .idle-clock .ensures)
-    ∙ sym (unfinished-step columnsOf (given .receiver) (given .trigger) (given .«data») _ (sym (bit .take-bit .ensures) ∙ c .before .before .before .taken .given .1))
+    ∙ sym (unfinished-step _ (given .receiver) (given .trigger) (given .«data») _ (sym (bit .take-bit .ensures) ∙ c .before .before .before .taken .given .1))
 
 returns-2 : tie.Need-returns-2
 returns-2 c =
-    let bit = c .before .before .before .before .before .before in
-    let given = bit .before .args in
+    let bit = c .before .before .before .before .before .before .before .before in
+    let given = bit .before .before .before .args in
     c .answered2 .ensures
-    ∙ ap (clockedAnswer nothingHeld) (rw (c .before .before .idle-clock2 .ensures) at (c .before .finish .ensures))
-    ∙ sym (finished-step columnsOf (given .receiver) (given .trigger) (given .«data») _ _ (sym (bit .take-bit .ensures) ∙ c .before .before .before .before .taken2 .given .1))
+    ∙ ap₂ clockedAnswer (c .before .held-after .ensures)
+    (rw (c .before .before .before .before .idle-clock2 .ensures, c .before .before .before .decode-finished .ensures) at (c .before .before .finish .ensures))
+    ∙ sym (finished-step _ (given .receiver) (given .trigger) (given .«data») _ _ (sym (bit .take-bit .ensures) ∙ c .before .before .before .before .before .before .taken2 .given .1))
 
 pub step-spec : {M : Type 1} → statement M
 step-spec =
@@ -57,7 +62,9 @@ step-spec =
     answered-requires
     enum-known-taken-2
     idle-clock-requires-2
+    decode-finished-requires
     finish-requires
+    held-after-requires
     answered-requires-2
     returns
     returns-2)

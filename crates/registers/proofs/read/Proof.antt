@@ -1,6 +1,5 @@
 -- `registers::read` meets its contract: at each exit the tests that led there pick the same answer. Assumes nothing.
-use Rattle.laws.proofs.Rules.{granted, picks}
-use Rattle.receiver_state.proofs.WellFormed.{receiver-facts}
+use Rattle.laws.proofs.Rules.{picks}
 use Rattle.registers.specs.Access.{readAnswer}
 use borrow.Author.Needs.{needs}
 use Rattle.registers.proofs.read.Statement.{statement}
@@ -27,7 +26,7 @@ unfolding readAnswer
 returns-2 c = rw (c .refuse-read2 .ensures, ← (c .before .before .read-refusal .ensures)) (search picks)
 
 register-byte-requires : tie.Need-register-byte-requires
-register-byte-requires c κs = receiver-facts (c .before .before .before .before .args .receiver) (search granted) .of-core .flag
+register-byte-requires c κs = search needs
 
 returns-3 : tie.Need-returns-3
 unfolding readAnswer

@@ -25,12 +25,12 @@ returns-2 : tie.Need-returns-2
 unfolding writeAnswer
 returns-2 c = rw (c .refuse-write2 .ensures, ← (c .before .before .write-refusal .ensures)) (search picks)
 
-write-core-requires : tie.Need-write-core-requires
-write-core-requires c κs = search needs
+write-byte-requires : tie.Need-write-byte-requires
+write-byte-requires c κs = search needs
 
 returns-3 : tie.Need-returns-3
 unfolding writeAnswer
-returns-3 c = rw (c .write-core .ensures, ← (c .before .before .write-refusal .ensures)) (search picks)
+returns-3 c = rw (c .write-byte .ensures, ← (c .before .before .write-refusal .ensures)) (search picks)
 
 pub write-spec : {M : Type 1} → statement M
 write-spec =
@@ -42,5 +42,5 @@ write-spec =
     write-refusal-requires
     refuse-write-requires-2
     returns-2
-    write-core-requires
+    write-byte-requires
     returns-3)

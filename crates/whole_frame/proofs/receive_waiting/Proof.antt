@@ -1,36 +1,64 @@
--- `receiver::receive_waiting` meets its contract: the clocks one by one come to the same. Assumes nothing.
-use mathlib.Core.Path.{ap, sym, _∙_}
-use Prim.Native.Nat.{ℕ, _+_, _%_}
-use Rattle.receiver_state.specs.State.{nothingHeld}
-use Rattle.fate.specs.declared.Clocked.{Clocked}
-use Rattle.fate.specs.Fate.{columnsOf}
-use Rattle.fate.specs.Laws.{finishedBy}
+-- `whole_frame::receive_waiting` meets its contract: the clocks one by one come to the same. Assumes nothing.
+use mathlib.Core.Path.{_≡_, sym, ap, ap₂, _∙_}
+use Prim.Native.Nat.{ℕ}
+use Rattle.receiver_state.specs.declared.Core.{Core}
+use Rattle.receiver_state.specs.declared.Outputs.{Outputs}
+use Rattle.receiver_state.specs.declared.Clocked.{Clocked}
+use Rattle.idle_clock.specs.AtRest.{restFor}
+use Rattle.verdicts.specs.Finished.{finished}
 use Rattle.receiver.specs.Clock.{clockedAnswer}
-use Rattle.whole_frame.specs.WholeFrame.{stillClocked}
+use Rattle.whole_frame.specs.WholeFrame.{settledClock}
 use Rattle.whole_frame.proofs.AtOnce.{at-once}
 use borrow.Author.Needs.{needs}
 use Rattle.whole_frame.proofs.receive_waiting.Statement.{statement}
 use Rattle.whole_frame.proofs.receive_waiting.Tie as tie
 
+settle-requires : tie.Need-settle-requires
+settle-requires c κs = search needs
+
 frame-bits-requires : tie.Need-frame-bits-requires
 frame-bits-requires c κs = search needs
 
-still-clocks-requires : tie.Need-still-clocks-requires
-still-clocks-requires c κs = search needs
+cast-rest-for : tie.Need-cast-rest-for
+cast-rest-for c = search needs
+
+rest-for-requires : tie.Need-rest-for-requires
+rest-for-requires c κs = search needs
+
+no-outputs-requires : tie.Need-no-outputs-requires
+no-outputs-requires c κs = search needs
+
+decode-finished-requires : tie.Need-decode-finished-requires
+decode-finished-requires c κs = search needs
 
 finish-requires : tie.Need-finish-requires
 finish-requires c κs = search needs
 
+held-after-requires : tie.Need-held-after-requires
+held-after-requires c κs = search needs
+
 returns : tie.Need-returns
 returns c =
-    let start = c .before .before .before .before .before in
+    let start = c .before .before .before .before .before .before .before .before .before .before .before in
     let given = start .args in
-    ap (clockedAnswer nothingHeld) (c .before .before .finish .ensures)
-    ∙ ap (λ (idle : Clocked). clockedAnswer nothingHeld (finishedBy columnsOf (given .kind) (given .number) idle))
-    (c .before .before .before .still-clocks .ensures
-    ∙ ap (λ (n : ℕ). stillClocked ((given .receiver .core .counters .bunch + n) % 4096) (given .receiver .core)) (c .before .before .before .before .frame-bits .ensures))
-    ∙ sym (at-once columnsOf (given .receiver) (given .kind) (given .number) (start .pre .0) (start .pre .1) (start .pre .2))
+    let idle : _ ≡ settledClock _ (given .receiver .core) =
+    ap₂ (λ (core : Core) (outputs : Outputs). record { core = core; outputs = outputs })
+    (c .before .before .before .before .before .before .rest-for .ensures ∙ ap₂ restFor (c .before .before .before .before .before .before .before .frame-bits .ensures) (c .before .before .before .before .before .before .before .before .settle .ensures))
+    (c .before .before .before .before .before .no-outputs .ensures) in
+    ap₂ clockedAnswer (c .held-after .ensures)
+    (c .before .before .before .finish .ensures ∙ ap₂ (finished (given .kind)) (c .before .before .before .before .decode-finished .ensures) idle)
+    ∙ sym (at-once _ (given .receiver) (given .kind) (given .number) (start .pre .0) (start .pre .1) (start .pre .2))
 
 pub receive-waiting-spec : {M : Type 1} → statement M
 receive-waiting-spec =
-    tie.close (tie.spec frame-bits-requires still-clocks-requires finish-requires returns)
+    tie.close
+    (tie.spec
+    settle-requires
+    frame-bits-requires
+    cast-rest-for
+    rest-for-requires
+    no-outputs-requires
+    decode-finished-requires
+    finish-requires
+    held-after-requires
+    returns)

@@ -1,0 +1,3 @@
+pub mod TakeBit
+pub mod Bits
+pub mod Laws

@@ -1,0 +1,2 @@
+pub mod TakeBit
+pub mod Laws

@@ -1,8 +1,0 @@
-pub mod Keep
-mod Rows
-pub mod Counts
-mod Stored
-mod Cleared
-mod Verdicts
-mod Executed
-pub mod Laws

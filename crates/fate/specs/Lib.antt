@@ -1,3 +1,0 @@
-pub mod Fate
-pub mod FrameLaws
-pub mod Laws

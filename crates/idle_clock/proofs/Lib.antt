@@ -1,0 +1,4 @@
+mod BusSequence
+mod Keep
+pub mod Laws
+pub mod AtRest

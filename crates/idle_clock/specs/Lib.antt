@@ -1,0 +1,3 @@
+pub mod IdleClock
+pub mod AtRest
+pub mod Laws

@@ -1,0 +1,67 @@
+-- What holds of the register map. Assumes nothing.
+use mathlib.Core.Path.{_≡_, refl}
+use mathlib.Core.Bool.{Bool, true, false, cond, not, _&&_}
+use mathlib.Core.List.{List, [], _∷_}
+use Prim.Native.Nat.{ℕ, _+_, _*_, _/_, _%_, _^_, _<_, _≤_}
+use native.Mathlib.Omega.{arith}
+use native.Mathlib.Nat.{mod-lt}
+use borrow.Author.Tests.{ne-eqb, not-true, ltb-true}
+use lib.Dec.{ltb, lit<}
+use Rattle.laws.specs.OneOf.{oneOf}
+use Rattle.laws.proofs.Below.{below}
+use Rattle.laws.proofs.Tests.{both}
+use Rattle.register_map.specs.Map.{mapNumbers, inMap, registerByte}
+use Rattle.register_map.specs.Laws.{gaps, MapLaws, ByteLaws}
+
+-- ---- the numbers of the map
+
+-- a number is not among smaller ones
+unfoldable allBelow : List ℕ → ℕ → Bool
+allBelow [] n = true
+allBelow (x ∷ xs) n = ltb x n && allBelow xs n
+
+none-of : (xs : List ℕ) (n low : ℕ) → low ≤ n → allBelow xs low ≡ true → oneOf xs n ≡ false
+unfolding oneOf allBelow
+none-of [] n low h e = refl
+none-of (x ∷ xs) n low h e =
+    let smaller : x < low = ltb-true x low (both (ltb x low) (allBelow xs low) e .0) in
+    rw (ne-eqb n x (λ z. omega arith)) (none-of xs n low h (both (ltb x low) (allBelow xs low) e .1))
+
+agrees : (a b : Bool) → cond b (not a) a ≡ true → a ≡ not b
+agrees a true e = not-true a e
+agrees a false e = e
+
+pub map-laws : MapLaws
+unfolding inMap oneOf allBelow
+map-laws =
+    record {
+      below-29 = λ number h. agrees (inMap number) (oneOf gaps number) (below 29 (λ k. cond (oneOf gaps k) (not (inMap k)) (inMap k)) refl number h);
+      from-29 = λ number h. none-of mapNumbers number 29 h refl;
+    }
+
+-- ---- what each register holds
+
+two-bytes : (n : ℕ) → n < 2 ^ 16 → n / 2 ^ 0 % 2 ^ 8 + n / 2 ^ 8 % 2 ^ 8 * 2 ^ 8 ≡ n
+two-bytes n h = omega arith
+
+three-bytes : (n : ℕ) → n < 2 ^ 24 → n / 2 ^ 0 % 2 ^ 8 + n / 2 ^ 8 % 2 ^ 8 * 2 ^ 8 + n / 2 ^ 16 % 2 ^ 8 * 2 ^ 16 ≡ n
+three-bytes n h = omega arith
+
+pub byte-laws : ByteLaws
+unfolding registerByte
+byte-laws =
+    record {
+      single-bytes = λ core h. two-bytes (core .errors .single) h;
+      id-bytes = λ core f. two-bytes (core .ids .id) (omega (arith, f .of-ids .below));
+      bunch-bytes = λ core f. two-bytes (core .counters .bunch) (omega (arith, f .of-counters .bunch-below));
+      event-bytes = λ core f. three-bytes (core .counters .event) (f .of-counters .event-below);
+      lower-bytes = λ core. (mod-lt _ (lit< tt), mod-lt _ (lit< tt), mod-lt _ (lit< tt), mod-lt _ (lit< tt), mod-lt _ (lit< tt));
+      setting-bytes = λ core. (refl, refl, refl, refl);
+      config-bytes = λ core. (refl, refl);
+      double-byte = λ core. refl;
+      upset-0 = λ core. refl;
+      i2c-byte = λ core. refl;
+      status-set = λ core e. rw e refl;
+      status-cleared = λ core e. rw e refl;
+      id-high-6 = λ core f. omega (arith, f .of-ids .below);
+    }

@@ -1,0 +1,4 @@
+pub mod Record
+pub mod Filled
+pub mod Block
+pub mod Run

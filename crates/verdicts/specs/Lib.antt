@@ -1,0 +1,4 @@
+pub mod Table
+pub mod Finished
+pub mod FrameLaws
+pub mod Laws
