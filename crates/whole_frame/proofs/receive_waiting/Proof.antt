@@ -1,9 +1,7 @@
 -- `whole_frame::receive_waiting` meets its contract: the clocks one by one come to the same. Assumes nothing.
-use mathlib.Core.Path.{_≡_, sym, ap, ap₂, _∙_}
-use Prim.Native.Nat.{ℕ}
+use mathlib.Core.Path.{_≡_, sym, ap₂, _∙_}
 use Rattle.receiver_state.specs.declared.Core.{Core}
 use Rattle.receiver_state.specs.declared.Outputs.{Outputs}
-use Rattle.receiver_state.specs.declared.Clocked.{Clocked}
 use Rattle.idle_clock.specs.AtRest.{restFor}
 use Rattle.verdicts.specs.Finished.{finished}
 use Rattle.receiver.specs.Clock.{clockedAnswer}
@@ -37,16 +35,20 @@ finish-requires c κs = search needs
 held-after-requires : tie.Need-held-after-requires
 held-after-requires c κs = search needs
 
+answered-requires : tie.Need-answered-requires
+answered-requires c κs = search needs
+
 returns : tie.Need-returns
 returns c =
-    let start = c .before .before .before .before .before .before .before .before .before .before .before in
+    let start = c .before .before .before .before .before .before .before .before .before .before in
     let given = start .args in
     let idle : _ ≡ settledClock _ (given .receiver .core) =
     ap₂ (λ (core : Core) (outputs : Outputs). record { core = core; outputs = outputs })
-    (c .before .before .before .before .before .before .rest-for .ensures ∙ ap₂ restFor (c .before .before .before .before .before .before .before .frame-bits .ensures) (c .before .before .before .before .before .before .before .before .settle .ensures))
-    (c .before .before .before .before .before .no-outputs .ensures) in
-    ap₂ clockedAnswer (c .held-after .ensures)
-    (c .before .before .before .finish .ensures ∙ ap₂ (finished (given .kind)) (c .before .before .before .before .decode-finished .ensures) idle)
+    (c .before .before .before .before .before .rest-for .ensures ∙ ap₂ restFor (c .before .before .before .before .before .before .frame-bits .ensures) (c .before .before .before .before .before .before .before .settle .ensures))
+    (c .before .before .before .before .no-outputs .ensures) in
+    c .answered .ensures
+    ∙ ap₂ clockedAnswer (c .before .held-after .ensures)
+    (c .before .before .finish .ensures ∙ ap₂ (finished (given .kind)) (c .before .before .before .decode-finished .ensures) idle)
     ∙ sym (at-once _ (given .receiver) (given .kind) (given .number) (start .pre .0) (start .pre .1) (start .pre .2))
 
 pub receive-waiting-spec : {M : Type 1} → statement M
@@ -61,4 +63,5 @@ receive-waiting-spec =
     decode-finished-requires
     finish-requires
     held-after-requires
+    answered-requires
     returns)
