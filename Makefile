@@ -63,10 +63,12 @@ layout:
 	cargo fmt --check --manifest-path host/Cargo.toml
 
 # rt ci removes target/, so the comparison comes after it and builds the library from the crates that it has just proved. The last line of
-# rt ci, 'N passed, M failed', says whether all passed: it is kept back in .ci/log, and printed once the comparison has passed too.
+# rt ci, 'N passed, M failed', is kept back in .ci/log, and printed once the comparison has passed too. A pipe has the status of its last
+# command, so the status of rt ci goes to .ci/status: all has passed if it is 0 and the last line has no failure.
 test: layout
-	@rm -f .ci/log
-	rt ci | tee .ci/log | sed -u '$$d'
+	@rm -f .ci/log .ci/status
+	{ rt ci; echo $$? > .ci/status; } | tee .ci/log | sed -u '$$d'
+	@echo 0 | cmp -s - .ci/status || { echo "rt ci ended with status $$(cat .ci/status)"; exit 1; }
 	@tail -n 1 .ci/log | grep -q ' passed, 0 failed$$'
 	$(MAKE) --no-print-directory compare
 	@tail -n 1 .ci/log
