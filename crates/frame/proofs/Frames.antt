@@ -112,15 +112,15 @@ record Answered (columns : List ℕ) (kind : Kind) (number flag word : ℕ) (fie
   pub flag-of : flag ≡ cond raised 1 0
   pub fields-of : fields ≡ fieldsOf kind word
 
-abbrev told : ℕ → ℕ → Fields → Answer
-told flag word fields = record { refusal = 0; verdict = 0; corrected = flag; word = word; fields = fields }
+abbrev goodAnswer : ℕ → ℕ → Fields → Answer
+goodAnswer flag word fields = record { refusal = 0; verdict = 0; corrected = flag; word = word; fields = fields }
 
-answered : (columns : List ℕ) (kind : Kind) (number flag word : ℕ) (fields : Fields) → decodeFrame columns kind number ≡ told flag word fields
+answered : (columns : List ℕ) (kind : Kind) (number flag word : ℕ) (fields : Fields) → decodeFrame columns kind number ≡ goodAnswer flag word fields
     → Answered columns kind number flag word fields
 unfolding decodeFrame
 answered columns kind number flag word fields = by-frame (isFrame kind number) refl
   where
-    by-judged : isFrame kind number ≡ true → (j : Judged) → judged columns kind number ≡ j → answerTo kind j ≡ told flag word fields
+    by-judged : isFrame kind number ≡ true → (j : Judged) → judged columns kind number ≡ j → answerTo kind j ≡ goodAnswer flag word fields
         → Answered columns kind number flag word fields
     by-judged i StopZero e a = let z : _≡_ {A = ℕ} 7 0 = ap (λ (x : Answer). x .verdict) a in absurd (omega arith)
     by-judged i Uncorrectable e a = let z : _≡_ {A = ℕ} 8 0 = ap (λ (x : Answer). x .verdict) a in absurd (omega arith)
@@ -136,7 +136,7 @@ answered columns kind number flag word fields = by-frame (isFrame kind number) r
           fields-of = sym (ap (λ (x : Answer). x .fields) a) ∙ ap (fieldsOf kind) same;
         }
 
-    by-frame : (b : Bool) → isFrame kind number ≡ b → cond b (answerTo kind (judged columns kind number)) (bareAnswer 12 0 0) ≡ told flag word fields
+    by-frame : (b : Bool) → isFrame kind number ≡ b → cond b (answerTo kind (judged columns kind number)) (bareAnswer 12 0 0) ≡ goodAnswer flag word fields
         → Answered columns kind number flag word fields
     by-frame true i a = by-judged i (judged columns kind number) refl a
     by-frame false i a = let z : _≡_ {A = ℕ} 12 0 = ap (λ (x : Answer). x .refusal) a in absurd (omega arith)
@@ -171,9 +171,9 @@ good-frame columns kind number word raised wrong = by-stop (eqb (stopBit number)
     by-stop false s g = by-decoded (not-zero number (eqb-false (stopBit number) 0 s)) (decoded columns (received kind number)) refl g
 
 -- the verdict on a decoded word is 0 or 9
-not-told : (kind : Kind) (word : ℕ) (flag : Bool) (p : WrongBit) (verdict : ℕ) → (0 ≡ verdict → ⊥) → (9 ≡ verdict → ⊥)
+not-good : (kind : Kind) (word : ℕ) (flag : Bool) (p : WrongBit) (verdict : ℕ) → (0 ≡ verdict → ⊥) → (9 ≡ verdict → ⊥)
     → answerTo kind (judgedWord kind (Word word flag p)) ≡ bareAnswer 0 verdict 0 → ⊥
-not-told kind word flag p verdict h k = by-fixed (fixedZero kind word)
+not-good kind word flag p verdict h k = by-fixed (fixedZero kind word)
   where
     by-fixed : (t : Bool) → answerTo kind (cond t (FixedZero word) (Good word flag p)) ≡ bareAnswer 0 verdict 0 → ⊥
     by-fixed true e = k (ap (λ (x : Answer). x .verdict) e)
@@ -306,19 +306,19 @@ frame-theorem columns kind len good = record {
     stop-exactly : Frames.StopExactly columns kind
     stop-exactly number i = (λ e. by-stop (eqb (stopBit number) 0) refl e, λ e. decode-stopped columns kind number i e)
       where
-        told-7 : (d : Decoded) → answer d ≡ bareAnswer 0 7 0 → ⊥
-        told-7 NoWord e = let z : _≡_ {A = ℕ} 8 7 = ap (λ (x : Answer). x .verdict) e in omega arith
-        told-7 (Word word flag p) e = not-told kind word flag p 7 (λ z. omega arith) (λ z. omega arith) e
+        never-7 : (d : Decoded) → answer d ≡ bareAnswer 0 7 0 → ⊥
+        never-7 NoWord e = let z : _≡_ {A = ℕ} 8 7 = ap (λ (x : Answer). x .verdict) e in omega arith
+        never-7 (Word word flag p) e = not-good kind word flag p 7 (λ z. omega arith) (λ z. omega arith) e
 
         by-stop : (t : Bool) → eqb (stopBit number) 0 ≡ t → decodeFrame columns kind number ≡ bareAnswer 0 7 0 → stopBit number ≡ 0
         by-stop true z e = eqb-true (stopBit number) 0 z
         by-stop false z e =
-            absurd (told-7 (decoded columns (received kind number)) (sym (decode-received columns kind number i (eqb-false (stopBit number) 0 z)) ∙ e))
+            absurd (never-7 (decoded columns (received kind number)) (sym (decode-received columns kind number i (eqb-false (stopBit number) 0 z)) ∙ e))
 
     exactly : Frames.UncorrectableExactly columns kind
     exactly number i s = (
       λ e word p h b n.
-          not-told kind word (flagOf p) p _ (λ z. omega arith) (λ z. omega arith)
+          not-good kind word (flagOf p) p _ (λ z. omega arith) (λ z. omega arith)
           (sym (decode-within word p h b) ∙ ap (decodeFrame columns kind) (sym n) ∙ e),
       λ none. decodes ∙ ap answer (no-word none (decoded columns (received kind number)) refl),
     )

@@ -6,11 +6,11 @@ use mathlib.Core.Logic.{_≢_, _⊎_, _↔_}
 use mathlib.Core.Bool.{true, false, cond}
 use mathlib.Core.List.{List, [], _∷_, _++_, map}
 use lib.ListN.{length, take, drop, getD}
-use Rattle.trace.specs.Filled.{filledPart}
 use Rattle.frame.specs.declared.Kind.{Kind}
+use Rattle.frame.specs.Columns.{columnsOf, GoodTables}
 use Rattle.receiver_state.specs.declared.Receiver.{Receiver}
 use Rattle.receiver_state.specs.WellFormed.{wellFormed}
-use Rattle.frame.specs.Columns.{columnsOf, GoodTables}
+use Rattle.trace.specs.Filled.{filledPart}
 use Rattle.trace.specs.Block.{recorded, BlockDone, refusedBlock, runBlock}
 use Rattle.guarantees.specs.Calls.{Call, clock, CallAnswer, call, run}
 

@@ -148,7 +148,7 @@ pub line-length : (columns : Kind → List ℕ) (r : Receiver) (lines : ℕ) (li
 unfolding lineText
 line-length columns r lines line s =
     let answer = feedLine columns r line in
-    let told = answer-length (wordDigits line) answer (digits-small line) (line-small columns r line s) in
+    let bound = answer-length (wordDigits line) answer (digits-small line) (line-small columns r line s) in
     let behind = length-append (answerText (wordDigits line) answer) (10 ∷ []) in
     let all = length-append (decimal (nextLine lines)) (32 ∷ (answerText (wordDigits line) answer ++ (10 ∷ []))) in
     omega (arith, twenty-digits (nextLine lines))

@@ -1,5 +1,6 @@
 -- What holds of the register map. Assumes nothing.
 use mathlib.Core.Path.{_≡_, refl}
+use mathlib.Core.Logic.{_⊎_, inl, inr}
 use mathlib.Core.Bool.{Bool, true, false, cond, not, _&&_}
 use mathlib.Core.List.{List, [], _∷_}
 use Prim.Native.Nat.{ℕ, _+_, _*_, _/_, _%_, _^_, _<_, _≤_}
@@ -10,8 +11,10 @@ use lib.Dec.{ltb, lit<}
 use Rattle.laws.specs.OneOf.{oneOf}
 use Rattle.laws.proofs.Below.{below}
 use Rattle.laws.proofs.Tests.{both}
+use Rattle.receiver_state.specs.declared.Core.{Core}
 use Rattle.register_map.specs.Map.{mapNumbers, inMap, registerByte}
-use Rattle.register_map.specs.Laws.{gaps, MapLaws, ByteLaws}
+use Rattle.register_map.specs.Change.{clearBunch, clearEvent}
+use Rattle.register_map.specs.Laws.{gaps, MapLaws, ByteLaws, ClearLaws}
 
 -- ---- the numbers of the map
 
@@ -64,4 +67,27 @@ byte-laws =
       status-set = λ core e. rw e refl;
       status-cleared = λ core e. rw e refl;
       id-high-6 = λ core f. omega (arith, f .of-ids .below);
+    }
+
+-- ---- counters cleared
+
+bunch-zero : (core : Core) (number : ℕ) → (number ≡ 24) ⊎ (number ≡ 25) → registerByte (clearBunch core) number ≡ 0
+unfolding registerByte
+bunch-zero core number (inl n) = rw n refl
+bunch-zero core number (inr n) = rw n refl
+
+event-zero : (core : Core) (number : ℕ) → (number ≡ 26) ⊎ ((number ≡ 27) ⊎ (number ≡ 28)) → registerByte (clearEvent core) number ≡ 0
+unfolding registerByte
+event-zero core number (inl n) = rw n refl
+event-zero core number (inr (inl n)) = rw n refl
+event-zero core number (inr (inr n)) = rw n refl
+
+pub clear-laws : ClearLaws
+unfolding registerByte
+clear-laws =
+    record {
+      bunch-zero = bunch-zero;
+      bunch-alone = λ core number a b. rw (ne-eqb number 24 a, ne-eqb number 25 b) refl;
+      event-zero = event-zero;
+      event-alone = λ core number a b c. rw (ne-eqb number 26 a, ne-eqb number 27 b, ne-eqb number 28 c) refl;
     }

@@ -1,7 +1,7 @@
 -- Document 01, "Registers": what holds of the map and of every change. Proved in proofs/Laws.antt, proofs/Stored.antt and proofs/Keep.antt.
 use Prim.Native.Nat.{ℕ, _+_, _*_, _^_, _<_, _≤_}
 use mathlib.Core.Path.{_≡_}
-use mathlib.Core.Logic.{_≢_}
+use mathlib.Core.Logic.{_≢_, _⊎_}
 use mathlib.Core.Bool.{false, not}
 use mathlib.Core.List.{List, [], _∷_}
 use Rattle.laws.specs.OneOf.{oneOf}
@@ -50,6 +50,13 @@ pub record ByteLaws : Type 0 where
 pub record StoreLaws : Type 0 where
   pub stored-back : (core : Core) (number byte : ℕ) → number < 4 → registerByte (storeByte number byte core) number ≡ byte
   pub others-stay : (core : Core) (number byte other : ℕ) → other ≢ number → registerByte (storeByte number byte core) other ≡ registerByte core other
+
+-- a counter cleared shows 0 in every byte, and no other register changes
+pub record ClearLaws : Type 0 where
+  pub bunch-zero : (core : Core) (number : ℕ) → (number ≡ 24) ⊎ (number ≡ 25) → registerByte (clearBunch core) number ≡ 0
+  pub bunch-alone : (core : Core) (number : ℕ) → number ≢ 24 → number ≢ 25 → registerByte (clearBunch core) number ≡ registerByte core number
+  pub event-zero : (core : Core) (number : ℕ) → (number ≡ 26) ⊎ ((number ≡ 27) ⊎ (number ≡ 28)) → registerByte (clearEvent core) number ≡ 0
+  pub event-alone : (core : Core) (number : ℕ) → number ≢ 26 → number ≢ 27 → number ≢ 28 → registerByte (clearEvent core) number ≡ registerByte core number
 
 -- the core stays well formed; by a register write, if refusal 7 lets the byte through
 pub record KeepLaws : Type 0 where

@@ -81,7 +81,7 @@ module _ (progress : Progress) (block : List ℕ) where
     pub rest-next : atRest (progress .run .receiver .core) ≡ true → at < length block → triggerBit (getD block at 0) ≡ 0
         → takeBit held (channelBit (getD block at 0)) ≡ Unfinished longer → RestTo longer (at + 1)
     rest-next resting here untriggered taken =
-        let still = rest-laws .stays-at-rest (at - progress .next) (progress .run .receiver .core) ∙ resting in
+        let at-rest-then = rest-laws .stays-at-rest (at - progress .next) (progress .run .receiver .core) ∙ resting in
         let one-more : (at - progress .next) + 1 ≡ (at + 1) - progress .next = omega (arith, q .low) in
         let next = rest-more (at - progress .next) held longer (progress .run) ∙ ap (λ (n : ℕ). restRun n longer (progress .run)) one-more in
         record {
@@ -94,7 +94,7 @@ module _ (progress : Progress) (block : List ℕ) where
               };
           same = λ columns buffer.
               ap (λ (x : Running). clocksRun columns (at + 1) x (drop (at + 1) block) buffer) (sym next)
-              ∙ rest-clock columns block at (soFar held at) here (q .facts) still longer untriggered taken buffer
+              ∙ rest-clock columns block at (soFar held at) here (q .facts) at-rest-then longer untriggered taken buffer
               ∙ q .same columns buffer;
         }
 

@@ -9,13 +9,13 @@ use lib.ListN.{length, drop}
 use Rattle.laws.specs.Table.{everyEntry}
 use Rattle.frame.specs.declared.Kind.{Kind}
 use Rattle.receiver_state.specs.declared.Receiver.{Receiver}
-use Rattle.receiver_state.specs.WellFormed.{wellFormed}
 use Rattle.receiver_state.specs.declared.Outputs.{Outputs}
-use Rattle.trace.specs.declared.TraceRecord.{TraceRecord}
-use Rattle.trace.specs.Record.{traceRecord, recordNumbers, numbersOf}
+use Rattle.receiver_state.specs.WellFormed.{wellFormed}
 use Rattle.receiver.specs.declared.ClockAnswer.{ClockAnswer}
-use Rattle.trace.specs.declared.BlockAnswer.{BlockAnswer}
 use Rattle.receiver.specs.Clock.{clockAnswer}
+use Rattle.trace.specs.declared.TraceRecord.{TraceRecord}
+use Rattle.trace.specs.declared.BlockAnswer.{BlockAnswer}
+use Rattle.trace.specs.Record.{traceRecord, recordNumbers, numbersOf}
 
 -- ---- the clocks of a block, done singly
 

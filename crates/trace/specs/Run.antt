@@ -5,17 +5,17 @@ use mathlib.Core.Bool.{cond}
 use mathlib.Core.List.{List, [], _∷_}
 use lib.ListN.{length, drop}
 use lib.Seq.{sets}
-use Rattle.trace.specs.Record.{recordNumbers, numbersOf}
 use Rattle.frame.specs.declared.Kind.{Kind}
 use Rattle.receiver_state.specs.declared.Held.{Held}
 use Rattle.receiver_state.specs.declared.Receiver.{Receiver}
 use Rattle.receiver_state.specs.State.{receiver}
+use Rattle.receiver_state.specs.WellFormed.{ReceiverFacts}
+use Rattle.idle_clock.specs.AtRest.{restFor}
 use Rattle.receiver.specs.declared.ClockAnswer.{ClockAnswer}
 use Rattle.trace.specs.declared.TraceRecord.{TraceRecord}
 use Rattle.trace.specs.declared.Running.{Running}
 use Rattle.trace.specs.declared.Progress.{Progress}
-use Rattle.receiver_state.specs.WellFormed.{ReceiverFacts}
-use Rattle.idle_clock.specs.AtRest.{restFor}
+use Rattle.trace.specs.Record.{recordNumbers, numbersOf}
 use Rattle.trace.specs.Block.{byteClock, recorded, recordOf, blockClocks}
 
 -- `Running`, and the whole buffer

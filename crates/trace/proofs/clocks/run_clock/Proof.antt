@@ -49,26 +49,26 @@ same-length-2 c = search needs
 
 returns-2 : tie.Need-returns-2
 returns-2 c =
-    let told = c .before .before .before .before in
+    let variant = c .before .before .before .before in
     let known = c .before .before .before .before .before .before .before in
     let bit = known .before .before in
     let given = bit .before .before .before .before .args in
     c .before .before .run-finished .ensures
     ∙ ap (λ (a : ClockAnswer). answeredRun (given .run) (given .place) a (given .buffer .now))
-    (sym (finished-step _ (given .run .receiver) (triggerBit (given .byte)) (channelBit (given .byte)) _ _ (sym (bit .take-bit .ensures) ∙ rw (told .enum-told .given .1) at (known .taken2 .given .1))))
+    (sym (finished-step _ (given .run .receiver) (triggerBit (given .byte)) (channelBit (given .byte)) _ _ (sym (bit .take-bit .ensures) ∙ rw (variant .enum-told .given .1) at (known .taken2 .given .1))))
 
 same-length-3 : tie.Need-same-length-3
 same-length-3 c = search needs
 
 returns-3 : tie.Need-returns-3
 returns-3 c =
-    let told = c .before .before .before .before in
+    let variant = c .before .before .before .before in
     let known = c .before .before .before .before .before .before .before in
     let bit = known .before .before in
     let given = bit .before .before .before .before .args in
     c .before .before .run-finished2 .ensures
     ∙ ap (λ (a : ClockAnswer). answeredRun (given .run) (given .place) a (given .buffer .now))
-    (sym (finished-step _ (given .run .receiver) (triggerBit (given .byte)) (channelBit (given .byte)) _ _ (sym (bit .take-bit .ensures) ∙ rw (told .enum-told2 .given .1) at (known .taken2 .given .1))))
+    (sym (finished-step _ (given .run .receiver) (triggerBit (given .byte)) (channelBit (given .byte)) _ _ (sym (bit .take-bit .ensures) ∙ rw (variant .enum-told2 .given .1) at (known .taken2 .given .1))))
 
 pub run-clock-spec : {M : Type 1} → statement M
 run-clock-spec =
