@@ -34,9 +34,9 @@ unfoldable pub heldAfter : Kind → ℕ → Held
 heldAfter kind number = nothingHeld
 
 -- what a bit leaves held
-abbrev pub heldThen : Taken → Held
-heldThen (Unfinished held) = held
-heldThen (Finished kind number) = heldAfter kind number
+abbrev pub heldAfterBit : Taken → Held
+heldAfterBit (Unfinished held) = held
+heldAfterBit (Finished kind number) = heldAfter kind number
 
 -- 01's term "waits": "when it holds no frame bit and a 0 on the next clock would be a start bit"
 pub record Waits (r : Receiver) : Type 0 where

@@ -26,8 +26,8 @@ use Rattle.trace.specs.Block.{triggerBit, channelBit, byteClock, SingleClock, s
 use Rattle.receiver.proofs.Laws.{clock-theorem}
 use Rattle.trace.proofs.InRange.{byte-below}
 use Rattle.trace.proofs.Run.{five-each, one-a-clock}
-use Rattle.guarantees.specs.Calls.{call, run}
-use Rattle.guarantees.proofs.EveryList.{run-behind}
+use Rattle.guarantees.specs.Calls.{call, run, answers}
+use Rattle.guarantees.proofs.EveryList.{run-behind, answers-behind}
 use Rattle.guarantees.specs.Blocks as blocks
 use Rattle.guarantees.specs.Blocks.{clockCalls, stateBefore, answerAt, recordAt, below, singleRecords, Accepts, DoneSingly, shiftedAfter, shifted, CutInTwo, BlockTheorem, ReceiverBlocks}
 
@@ -332,9 +332,18 @@ module _ (columns : Kind → List ℕ) (laws : ClockLaws columns) where
   among-calls : blocks.AmongCalls columns
   among-calls r before after block buffer b =
       let start = run columns r before in
-      ap (λ (s : Receiver). run columns s after) (equals-singly columns start block buffer b .state-is)
-      ∙ sym (run-behind columns laws (clockCalls block) start after)
-      ∙ sym (run-behind columns laws before r (clockCalls block ++ after))
+      let clocks = clockCalls block in
+      let left = equals-singly columns start block buffer b .state-is in
+      record {
+        state =
+            ap (λ (s : Receiver). run columns s after) left
+            ∙ sym (run-behind columns laws clocks start after)
+            ∙ sym (run-behind columns laws before r (clocks ++ after));
+        answers-are =
+            ap (answers columns r) (sym (append-assoc before clocks after))
+            ∙ answers-behind columns laws (before ++ clocks) r after
+            ∙ ap (λ (s : Receiver). answers columns r (before ++ clocks) ++ answers columns s after) (run-behind columns laws before r clocks ∙ sym left);
+      }
 
   cuts-never-show : blocks.CutsNeverShow columns
   cuts-never-show r first second buffer buffer₁ buffer₂ b room₁ room₂ =

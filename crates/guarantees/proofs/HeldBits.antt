@@ -21,7 +21,7 @@ use Rattle.receiver_state.specs.WellFormed.{HeldFacts}
 use Rattle.receiver_state.proofs.HeldBits.{waiting-law}
 use Rattle.channel_b.specs.declared.Taken.{Taken}
 use Rattle.channel_b.specs.declared.Taken.the-variants.{Unfinished, Finished}
-use Rattle.channel_b.specs.TakeBit.{takeBit, heldThen}
+use Rattle.channel_b.specs.TakeBit.{takeBit, heldAfterBit}
 use Rattle.channel_b.specs.Laws.{firstBits, bitAfter}
 use Rattle.channel_b.proofs.TakeBit.{TakenFacts, taken-facts}
 use Rattle.channel_b.proofs.Bits.{bit-law}
@@ -31,24 +31,24 @@ use Rattle.channel_b.proofs.Laws.{after-frame}
 
 unfoldable pub heldOver : Held → List ℕ → Held
 heldOver held [] = held
-heldOver held (b ∷ bs) = heldOver (heldThen (takeBit held b)) bs
+heldOver held (b ∷ bs) = heldOver (heldAfterBit (takeBit held b)) bs
 
 pub held-append : (held : Held) (xs ys : List ℕ) → heldOver held (xs ++ ys) ≡ heldOver (heldOver held xs) ys
 unfolding heldOver
 held-append held [] ys = refl
-held-append held (x ∷ xs) ys = held-append (heldThen (takeBit held x)) xs ys
+held-append held (x ∷ xs) ys = held-append (heldAfterBit (takeBit held x)) xs ys
 
-pub then-facts : (held : Held) (bit : ℕ) → HeldFacts held → bit < 2 → HeldFacts (heldThen (takeBit held bit))
+pub then-facts : (held : Held) (bit : ℕ) → HeldFacts held → bit < 2 → HeldFacts (heldAfterBit (takeBit held bit))
 then-facts held bit f b = go (takeBit held bit) (taken-facts held bit f b)
   where
-    go : (taken : Taken) → TakenFacts taken → HeldFacts (heldThen taken)
+    go : (taken : Taken) → TakenFacts taken → HeldFacts (heldAfterBit taken)
     go (Unfinished after) h = h
     go (Finished kind number) h = after-frame .well-formed kind number
 
 pub over-facts : (bs : List ℕ) (held : Held) → Bits bs → HeldFacts held → HeldFacts (heldOver held bs)
 unfolding heldOver
 over-facts [] held p f = f
-over-facts (b ∷ bs) held (p, q) f = over-facts bs (heldThen (takeBit held b)) q (then-facts held b f p)
+over-facts (b ∷ bs) held (p, q) f = over-facts bs (heldAfterBit (takeBit held b)) q (then-facts held b f p)
 
 -- ---- ones
 
@@ -56,22 +56,22 @@ over-facts (b ∷ bs) held (p, q) f = over-facts bs (heldThen (takeBit held b)) 
 abbrev Near : ℕ → Held → Type 0
 Near k held = (held ≡ nothingHeld) ⊎ (42 ≤ k + held .count)
 
-nearer : (k : ℕ) (held : Held) → HeldFacts held → Near (suc k) held → Near k (heldThen (takeBit held 1))
+nearer : (k : ℕ) (held : Held) → HeldFacts held → Near (suc k) held → Near k (heldAfterBit (takeBit held 1))
 nearer k held f near = by-test (isWaiting held) (λ t. waiting (waiting-law held f .0 t)) (λ t. later near t)
   where
-    waiting : held ≡ nothingHeld → Near k (heldThen (takeBit held 1))
+    waiting : held ≡ nothingHeld → Near k (heldAfterBit (takeBit held 1))
     waiting z = rw (z, bit-law .idle-bit) (inl refl)
 
     grown : 42 ≤ suc k + held .count
         → ((kind : Kind) × (takeBit held 1 ≡ Finished kind (held .bits * 2 + 1))) ⊎ (takeBit held 1 ≡ Unfinished (holding (held .count + 1) (held .bits * 2 + 1)))
-        → Near k (heldThen (takeBit held 1))
+        → Near k (heldAfterBit (takeBit held 1))
     grown h (inl (kind, e)) = rw e (inl (after-frame .stop-one kind (held .bits * 2 + 1) (odd (held .bits))))
       where
         odd : (n : ℕ) → (n * 2 + 1) % 2 ≡ 1
         odd n = omega arith
     grown h (inr e) = rw e (inr (omega arith))
 
-    later : Near (suc k) held → isWaiting held ≡ false → Near k (heldThen (takeBit held 1))
+    later : Near (suc k) held → isWaiting held ≡ false → Near k (heldAfterBit (takeBit held 1))
     later (inl z) w = waiting z
     later (inr h) w = grown h (bit-law .later-bit held 1 f (omega arith) w)
 
@@ -79,7 +79,7 @@ ones-wait : (k : ℕ) (held : Held) → HeldFacts held → Near k held → heldO
 unfolding heldOver
 ones-wait zero held f (inl z) = z
 ones-wait zero held f (inr h) = absurd (omega (arith, f .few))
-ones-wait (suc k) held f near = ones-wait k (heldThen (takeBit held 1)) (then-facts held 1 f (omega arith)) (nearer k held f near)
+ones-wait (suc k) held f near = ones-wait k (heldAfterBit (takeBit held 1)) (then-facts held 1 f (omega arith)) (nearer k held f near)
 
 some-held : (held : Held) → isWaiting held ≡ false → held .count ≢ 0
 unfolding isWaiting

@@ -20,7 +20,7 @@ use Rattle.receiver_state.specs.Shown.{noOutputs}
 use Rattle.receiver.specs.declared.ClockAnswer.{ClockAnswer}
 use Rattle.channel_b.specs.declared.Taken.{Taken}
 use Rattle.channel_b.specs.declared.Taken.the-variants.{Unfinished, Finished}
-use Rattle.channel_b.specs.TakeBit.{takeBit, heldAfter, heldThen}
+use Rattle.channel_b.specs.TakeBit.{takeBit, heldAfter, heldAfterBit}
 use Rattle.idle_clock.specs.IdleClock.{idleClock}
 use Rattle.verdicts.specs.Finished.{finishedBy}
 use Rattle.receiver.specs.Laws.{ClockLaws}
@@ -144,6 +144,6 @@ module _ (columns : Kind → List ℕ) (laws : ClockLaws columns) where
       (λ t. rw t (ap (λ (d : CallResult). d .receiver .held) (refused-clock r trigger bit e t)))
     where
       by-taken : refusalOf (clock trigger bit) ≡ 0 → (taken : Taken) → takeBit (r .held) bit ≡ taken
-          → call columns r (clock trigger bit) .receiver .held ≡ heldThen (takeBit (r .held) bit)
+          → call columns r (clock trigger bit) .receiver .held ≡ heldAfterBit (takeBit (r .held) bit)
       by-taken z (Unfinished after) t = rw t (ap (λ (d : CallResult). d .receiver .held) (unfinished-clock (r .core) (r .held) after trigger bit e z t))
       by-taken z (Finished kind number) t = rw t (ap (λ (d : CallResult). d .receiver .held) (finished-clock (r .core) (r .held) trigger bit kind number e z t))

@@ -12,7 +12,7 @@ use Rattle.receiver_state.specs.declared.Receiver.{Receiver}
 use Rattle.receiver_state.specs.WellFormed.{wellFormed}
 use Rattle.trace.specs.Filled.{filledPart}
 use Rattle.trace.specs.Block.{recorded, BlockDone, refusedBlock, runBlock}
-use Rattle.guarantees.specs.Calls.{Call, clock, CallAnswer, call, run}
+use Rattle.guarantees.specs.Calls.{Call, clock, CallAnswer, call, run, answers}
 
 -- ---- the clocks of a block as a list of calls
 
@@ -120,12 +120,16 @@ module _ (columns : Kind → List ℕ) where
   StaysWellFormed =
       (r : Receiver) (block buffer : List ℕ) → wellFormed r ≡ true → wellFormed (runBlock columns r block buffer .answer .receiver) ≡ true
 
-  -- a block among other calls is its clocks: the state that the calls after it get, and so all that `Demand3` says of lists, is that of one list
+  -- a block among other calls is its clocks: the calls after it leave and answer what they do in one list with those clocks, so that what `Demand3`
+  -- says of lists is said of them. `left` is the receiver that the block leaves.
+  pub record AsItsClocks (r : Receiver) (before : List Call) (block : List ℕ) (left : Receiver) (after : List Call) : Type 0 where
+    pub state : run columns left after ≡ run columns r (before ++ (clockCalls block ++ after))
+    pub answers-are : answers columns r (before ++ (clockCalls block ++ after)) ≡ answers columns r (before ++ clockCalls block) ++ answers columns left after
+
   abbrev pub AmongCalls : Type 0
   AmongCalls =
       (r : Receiver) (before after : List Call) (block buffer : List ℕ) → let start = run columns r before in
-      Accepts start block buffer
-      → run columns (runBlock columns start block buffer .answer .receiver) after ≡ run columns r (before ++ (clockCalls block ++ after))
+      Accepts start block buffer → AsItsClocks r before block (runBlock columns start block buffer .answer .receiver) after
 
 -- ---- a block cut in two
 

@@ -1,7 +1,7 @@
 -- Document 01, "Demand 3, over lists of calls": the statement, over the columns of each kind of frame. Proved in proofs/Demand3.antt.
 -- "It is one claim about the whole list and not one for each call." What a single call gives is fixed by the definitions that `call` of Calls.antt
--- cites, with `ClockLaws`, `ReadLaws` and `WriteLaws` of the crates `receiver` and `registers`; of these, the record repeats only what a refused call
--- leaves and answers, and that a read leaves the state.
+-- cites, with `ClockLaws` of the crate `receiver`, `ReadLaws` and `WriteLaws` of `registers` and `ByteLaws` of `register_map`; of these, the record
+-- repeats only what a refused call leaves and answers, and that a read leaves the state.
 -- Words in quotation marks that document 01 does not have are the customer's demand 3.
 use Prim.Native.Nat.{ℕ}
 use mathlib.Core.Path.{_≡_}

@@ -17,7 +17,7 @@ use Rattle.receiver_state.specs.WellFormed.{SequenceFacts, CoreFacts}
 use Rattle.receiver_state.proofs.Changes.{counters-changed, sequence-changed}
 use Rattle.idle_clock.specs.declared.Bus.{Bus}
 use Rattle.idle_clock.specs.IdleClock.{countClock, continued, busStep, busOf, idleClock}
-use Rattle.idle_clock.specs.AtRest.{atRest, settled, restFor, idleClocks, restClock, RestLaws}
+use Rattle.idle_clock.specs.AtRest.{atRest, settled, restFor, untriggeredClocks, restClock, RestLaws}
 use Rattle.idle_clock.proofs.Keep.{none-left}
 
 -- ---- clocks at rest
@@ -77,8 +77,8 @@ none-after s now control h =
     (picked-by (λ (b : Bus). b .sequence ≡ noSequence) (eqb (s .left) 2) (λ t. absurd (let two : s .left ≡ 2 = eqb-true _ _ t in omega arith)) (λ t. refl))
     refl
 
-two-clocks : (core : Core) → CoreFacts core → idleClocks 2 core ≡ restFor 2 (settled core)
-unfolding idleClocks idleClock countClock restFor
+two-clocks : (core : Core) → CoreFacts core → untriggeredClocks 2 core ≡ restFor 2 (settled core)
+unfolding untriggeredClocks idleClock countClock restFor
 two-clocks core f =
     ap (λ (s : Sequence). withSequence s (withCounters (counters (((core .counters .bunch + 1) % 4096 + 1) % 4096) (core .counters .event)) core))
     (none-after (busOf core 0 .sequence) (countClock (core .counters) 0) (core .settings .control)
@@ -88,8 +88,8 @@ two-clocks core f =
     two-more : (b : ℕ) → ((b + 1) % 4096 + 1) % 4096 ≡ (b + 2) % 4096
     two-more b = omega arith
 
-settles : (clocks : ℕ) (core : Core) → CoreFacts core → 2 ≤ clocks → idleClocks clocks core ≡ restFor clocks (settled core)
-unfolding idleClocks
+settles : (clocks : ℕ) (core : Core) → CoreFacts core → 2 ≤ clocks → untriggeredClocks clocks core ≡ restFor clocks (settled core)
+unfolding untriggeredClocks
 settles zero core f h = absurd (omega arith)
 settles (suc zero) core f h = absurd (omega arith)
 settles (suc (suc zero)) core f h = two-clocks core f

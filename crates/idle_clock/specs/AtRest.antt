@@ -23,9 +23,9 @@ unfoldable pub restFor : ℕ → Core → Core
 restFor clocks core = withCounters (counters ((core .counters .bunch + clocks) % 4096) (core .counters .event)) core
 
 -- so many clocks without a trigger, of steps 1 and 2 alone, on any core
-unfoldable pub idleClocks : ℕ → Core → Core
-idleClocks zero core = core
-idleClocks (suc n) core = idleClock (idleClocks n core) 0 .core
+unfoldable pub untriggeredClocks : ℕ → Core → Core
+untriggeredClocks zero core = core
+untriggeredClocks (suc n) core = idleClock (untriggeredClocks n core) 0 .core
 
 -- after that many, all that was under way has ended: a sequence has two words left at most
 abbrev pub settlingClocks : ℕ
@@ -42,6 +42,6 @@ pub record RestLaws : Type 0 where
   pub one-more : (clocks : ℕ) (core : Core) → restFor 1 (restFor clocks core) ≡ restFor (clocks + 1) core
   pub rest-keeps : (clocks : ℕ) (core : Core) → CoreFacts core → CoreFacts (restFor clocks core)
   -- whatever was under way
-  pub settles : (clocks : ℕ) (core : Core) → CoreFacts core → settlingClocks ≤ clocks → idleClocks clocks core ≡ restFor clocks (settled core)
+  pub settles : (clocks : ℕ) (core : Core) → CoreFacts core → settlingClocks ≤ clocks → untriggeredClocks clocks core ≡ restFor clocks (settled core)
   pub settled-rests : (core : Core) → atRest (settled core) ≡ true
   pub settled-keeps : (core : Core) → CoreFacts core → CoreFacts (settled core)

@@ -63,8 +63,8 @@ busOf core trigger = busStep (core .sequence) (core .counters) (core .settings .
 -- "trigger output 1" on a trigger; what steps 1 and 2 do not set is 0
 unfoldable pub idleClock : Core → ℕ → Clocked
 idleClock core trigger =
-    let bus = busOf core trigger in
+    let next = busOf core trigger in
     record {
-      core = withSequence (bus .sequence) (withCounters (countClock (core .counters) trigger) core);
-      outputs = showingBus trigger (bus .missed) (bus .strobe) (bus .number) noOutputs;
+      core = withSequence (next .sequence) (withCounters (countClock (core .counters) trigger) core);
+      outputs = showingBus trigger (next .missed) (next .strobe) (next .number) noOutputs;
     }

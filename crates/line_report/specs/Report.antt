@@ -91,7 +91,7 @@ module _ (columns : Kind → List ℕ) where
 
 -- ---- a piece of the input, and a buffer
 
--- the digits of a number below 1000
+-- how many digits a number below 1000 has
 abbrev pub digitsOf : ℕ → ℕ
 digitsOf n = cond (ltb n 10) 1 (cond (ltb n 100) 2 3)
 

@@ -11,14 +11,14 @@ use Rattle.idle_clock.specs.IdleClock.{idleClock}
 use Rattle.idle_clock.proofs.Laws.{idle-laws}
 use Rattle.channel_b.specs.declared.Taken.{Taken}
 use Rattle.channel_b.specs.declared.Taken.the-variants.{Unfinished, Finished}
-use Rattle.channel_b.specs.TakeBit.{takeBit, heldThen}
+use Rattle.channel_b.specs.TakeBit.{takeBit, heldAfterBit}
 use Rattle.channel_b.proofs.TakeBit.{TakenFacts, taken-facts}
 use Rattle.channel_b.proofs.Laws.{after-frame}
 use Rattle.verdicts.proofs.Keep.{finished-facts}
 use Rattle.receiver.specs.Clock.{applyFrame, stepAnswer}
 
 after-facts : (columns : Kind → List ℕ) (taken : Taken) (idle : Clocked) → TakenFacts taken → CoreFacts (idle .core)
-    → ReceiverFacts (receiver (applyFrame columns taken idle .core) (heldThen taken))
+    → ReceiverFacts (receiver (applyFrame columns taken idle .core) (heldAfterBit taken))
 after-facts columns (Unfinished held) idle h f = record { of-core = f; of-held = h }
 after-facts columns (Finished kind number) idle h f =
     record { of-core = finished-facts kind (finishedAnswer columns kind number) idle f; of-held = after-frame .well-formed kind number }

@@ -29,7 +29,7 @@ use Rattle.idle_clock.specs.Laws.{Shows, BusShows, SequenceLeft}
 use Rattle.idle_clock.proofs.Laws.{idle-laws}
 use Rattle.channel_b.specs.declared.Taken.{Taken}
 use Rattle.channel_b.specs.declared.Taken.the-variants.{Unfinished, Finished}
-use Rattle.channel_b.specs.TakeBit.{takeBit, heldAfter, heldThen, Waits}
+use Rattle.channel_b.specs.TakeBit.{takeBit, heldAfter, heldAfterBit, Waits}
 use Rattle.channel_b.proofs.Laws.{finishes-frames, after-frame}
 use Rattle.verdicts.specs.Table.{dropped}
 use Rattle.verdicts.specs.Finished.{finished, finishedBy}
@@ -71,6 +71,7 @@ unmoved-errors before shown z f =
     record {
       double-up = λ p. absurd (true≢false (sym p ∙ ap dropped z));
       single-up = λ p. absurd (no-flag f (p .0));
+      dropped-flag = λ p. f;
       reset = λ p. absurd (omega arith);
       double-stays = λ p q. refl;
       single-stays = λ p q. refl;
@@ -159,7 +160,7 @@ module _ (columns : Kind → List ℕ) (verdicts : VerdictLaws columns) where
   unfolding stepAnswer
   by-taken P r trigger bit unfinished done = go (takeBit (r .held) bit)
     where
-      go : (taken : Taken) → P taken (clockedAnswer (heldThen taken) (applyFrame columns taken (idleClock (r .core) trigger)))
+      go : (taken : Taken) → P taken (clockedAnswer (heldAfterBit taken) (applyFrame columns taken (idleClock (r .core) trigger)))
       go (Unfinished held) = unfinished held
       go (Finished kind number) = done kind number
 

@@ -13,7 +13,7 @@ use Rattle.receiver_state.specs.WellFormed.{wellFormed}
 use Rattle.idle_clock.specs.IdleClock.{idleClock}
 use Rattle.channel_b.specs.declared.Taken.{Taken}
 use Rattle.channel_b.specs.declared.Taken.the-variants.{Unfinished, Finished}
-use Rattle.channel_b.specs.TakeBit.{takeBit, heldThen}
+use Rattle.channel_b.specs.TakeBit.{takeBit, heldAfterBit}
 use Rattle.verdicts.specs.Finished.{finishedBy}
 use Rattle.receiver.specs.declared.ClockAnswer.{ClockAnswer}
 
@@ -28,7 +28,7 @@ clockedAnswer held clocked = record { refusal = 0; receiver = receiver (clocked 
 -- the three steps: 1 and 2 are the idle clock; 3, "The channel B bit is taken, and a finished frame acts."
 unfoldable pub stepAnswer : (Kind → List ℕ) → Receiver → ℕ → ℕ → ClockAnswer
 stepAnswer columns r trigger bit =
-    clockedAnswer (heldThen (takeBit (r .held) bit)) (applyFrame columns (takeBit (r .held) bit) (idleClock (r .core) trigger))
+    clockedAnswer (heldAfterBit (takeBit (r .held) bit)) (applyFrame columns (takeBit (r .held) bit) (idleClock (r .core) trigger))
 
 -- "A refused call returns its number with all other result fields 0 .., the state unchanged where one was given"
 abbrev pub refusedClock : ℕ → Receiver → ClockAnswer

@@ -1,4 +1,4 @@
-// Document 01, "Fate of a finished frame" and "One clock": one clock of a receiver.
+// Document 01, "One clock": one clock of a receiver, checked and unchecked.
 //
 // The state goes by value, in and out: see `receiver_state`. Columns are only read, and are lent: the
 // public clock passes document 01's table down.

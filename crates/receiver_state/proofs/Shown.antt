@@ -20,6 +20,6 @@ frame-stands verdict corrected word shown = record { trigger-stands = refl; miss
 pub outputs-laws : OutputsLaws
 outputs-laws =
     record {
-      nothing-shown = λ shown. (shows-nothing shown, λ e. subst ShowsNothing (sym e) none-shown);
+      all-zero = λ shown. (shows-nothing shown, λ e. subst ShowsNothing (sym e) none-shown);
       frame-stands = frame-stands;
     }

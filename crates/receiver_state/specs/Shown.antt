@@ -57,5 +57,5 @@ pub record Stands (shown idle : Outputs) : Type 0 where
 
 -- Proved in proofs/Shown.antt.
 pub record OutputsLaws : Type 0 where
-  pub nothing-shown : (shown : Outputs) → ShowsNothing shown ↔ (shown ≡ noOutputs)
+  pub all-zero : (shown : Outputs) → ShowsNothing shown ↔ (shown ≡ noOutputs)
   pub frame-stands : (verdict corrected word : ℕ) (shown : Outputs) → Stands (showingFrame verdict corrected word shown) shown

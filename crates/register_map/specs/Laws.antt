@@ -51,7 +51,7 @@ pub record StoreLaws : Type 0 where
   pub stored-back : (core : Core) (number byte : ℕ) → number < 4 → registerByte (storeByte number byte core) number ≡ byte
   pub others-stay : (core : Core) (number byte other : ℕ) → other ≢ number → registerByte (storeByte number byte core) other ≡ registerByte core other
 
--- a counter cleared shows 0 in every byte, and no other register changes
+-- the bunch or event counter cleared, by a register write or a broadcast: it shows 0 in every byte, and no other register changes
 pub record ClearLaws : Type 0 where
   pub bunch-zero : (core : Core) (number : ℕ) → (number ≡ 24) ⊎ (number ≡ 25) → registerByte (clearBunch core) number ≡ 0
   pub bunch-alone : (core : Core) (number : ℕ) → number ≢ 24 → number ≢ 25 → registerByte (clearBunch core) number ≡ registerByte core number

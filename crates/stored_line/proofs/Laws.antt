@@ -18,7 +18,7 @@ use Rattle.stored_line.specs.declared.StoredLine.the-variants.{Frame, Re
 use Rattle.stored_line.specs.Digits.{between, digitValue, isDigit, allDigits, hexNumber, hexAnswer, digitCharacter, hexDigits}
 use Rattle.stored_line.specs.Read.{readLine}
 use Rattle.stored_line.specs.Write.{writeDone, writeLine}
-use Rattle.stored_line.specs.Laws.{Between, Capital, Digit, Each, DigitLaws, NumberLaws, HasLength, ReadLaws, TooSmall, WriteLaws}
+use Rattle.stored_line.specs.Laws.{Between, Capital, Digit, Each, DigitLaws, NumberLaws, HasLength, LineReadLaws, TooSmall, LineWriteLaws}
 use Rattle.stored_line.proofs.ReadWritten.{number-snoc}
 
 -- ---- a digit
@@ -135,8 +135,8 @@ unfolding readLine hexAnswer
 accepted Short characters l each e = rw (l, all-digits characters each, e)
 accepted Long characters l each e = rw (l, all-digits characters each, e)
 
-pub read-laws : ReadLaws
-read-laws =
+pub line-read-laws : LineReadLaws
+line-read-laws =
     record {
       refused-by-10 = refused-by-10;
       refused-by-11 = refused-by-11;
@@ -175,9 +175,9 @@ all-capitals zero number = tt
 all-capitals (suc digits) number =
     capitals-snoc (hexDigits digits (number / 16)) (digitCharacter (number % 16)) (all-capitals digits (number / 16)) (capital-digit (number % 16) (omega arith))
 
-pub write-laws : WriteLaws
+pub line-write-laws : LineWriteLaws
 unfolding writeLine
-write-laws =
+line-write-laws =
     record {
       refused-by-12 = λ kind number buffer e. rw e;
       refused-by-14 = refused-by-14;

@@ -60,7 +60,7 @@ HasLength Short characters = length characters ≡ 4
 HasLength Long characters = length characters ≡ 11
 
 -- every line has one of these four answers
-pub record ReadLaws : Type 0 where
+pub record LineReadLaws : Type 0 where
   -- 10, "line not 4 or 11 characters", "first"
   pub refused-by-10 : (characters : List ℕ) → length characters ≢ 4 → length characters ≢ 11 → readLine characters ≡ Refused 10
   -- 11, "character not 0-9, A-F, a-f", "after 10"
@@ -83,7 +83,7 @@ TooSmall Short buffer = length buffer < 5
 TooSmall Long buffer = length buffer < 12
 
 -- every call has one of these four answers. `ReadWritten` says that the line reads as the number.
-pub record WriteLaws : Type 0 where
+pub record LineWriteLaws : Type 0 where
   -- 12 before 14; either writes "no lent byte", and answers that none was written
   pub refused-by-12 : (kind : Kind) (number : ℕ) (buffer : List ℕ) → isFrame kind number ≡ false
       → writeLine kind number buffer ≡ writeDone (record { refusal = 12; size = 0 }) buffer

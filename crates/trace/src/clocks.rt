@@ -1,6 +1,6 @@
 // Document 02, Q-3: the clocks of a block that was checked. A clock is done by the parts of the
-// unchecked step, `take_bit`, `idle_clock` and `finish`, and not by `step` itself; and clocks at rest
-// are counted together. This is faster (docs/DECISIONS.md, "Blocks of clocks").
+// unchecked step, `take_bit`, `idle_clock`, `decode_finished` and `finish`, and not by `step` itself;
+// and clocks at rest are counted together. This is faster (docs/DECISIONS.md, "Blocks of clocks").
 ghost use mathlib.Core.Path.{_≡_};
 ghost use mathlib.Core.Bool.{true};
 ghost use Prim.Native.Nat.{_+_, _*_, _<_, _≤_};

@@ -43,6 +43,7 @@ dropped-moves v word idle d =
     record {
       double-up = λ p. one-higher 255 (idle .core .errors .double);
       single-up = λ p. absurd (let z : _≡_ {A = ℕ} 0 1 = p .0 in omega arith);
+      dropped-flag = λ p. refl;
       reset = λ p. absurd (not-dropped v 3 d refl p);
       double-stays = λ p q. absurd (true≢false (sym d ∙ p));
       single-stays = λ p q. refl;
@@ -57,6 +58,7 @@ reset-moves frame own idle =
     record {
       double-up = λ p. absurd (true≢false (sym p));
       single-up = λ p. absurd (p .1 refl);
+      dropped-flag = λ p. absurd (true≢false (sym p));
       reset = λ p. (refl, refl);
       double-stays = λ p q. absurd (q refl);
       single-stays = λ p q. absurd (q refl);
@@ -74,6 +76,7 @@ other-moves v flag word kind core idle d t z e =
     record {
       double-up = λ p. absurd (true≢false (sym p ∙ d));
       single-up = λ p. rw (e, eq-eqb _ _ (p .0)) (one-higher 65535 (idle .core .errors .single));
+      dropped-flag = λ p. absurd (true≢false (sym p ∙ d));
       reset = λ p. absurd (t p);
       double-stays = λ p q. ap (λ (x : Errors). x .double) e;
       single-stays = λ p q. ap (λ (x : Errors). x .single) e ∙ rw (ne-eqb flag 1 (λ c. p (c, q))) refl;

@@ -63,6 +63,8 @@ SingleError shown = (shown .corrected ≡ 1) × (shown .verdict ≢ 3)
 pub record ErrorsMove (before : Errors) (shown : Outputs) (after : Errors) : Type 0 where
   pub double-up : dropped (shown .verdict) ≡ true → OneHigher 255 (before .double) (after .double)
   pub single-up : SingleError shown → OneHigher 65535 (before .single) (after .single)
+  -- "For 0, 7, 8 and 9 the flag is 0": a dropped frame has no single error
+  pub dropped-flag : dropped (shown .verdict) ≡ true → shown .corrected ≡ 0
   pub reset : shown .verdict ≡ 3 → (after .double ≡ 0) × (after .single ≡ 0)
   pub double-stays : dropped (shown .verdict) ≡ false → shown .verdict ≢ 3 → after .double ≡ before .double
   pub single-stays : (SingleError shown → ⊥) → shown .verdict ≢ 3 → after .single ≡ before .single

@@ -21,7 +21,7 @@ use Rattle.receiver_state.specs.Shown.{noOutputs}
 use Rattle.receiver_state.specs.WellFormed.{CoreFacts, ReceiverFacts}
 use Rattle.receiver_state.proofs.HeldBits.{waiting-law}
 use Rattle.idle_clock.specs.IdleClock.{idleClock}
-use Rattle.idle_clock.specs.AtRest.{settled, restFor, idleClocks}
+use Rattle.idle_clock.specs.AtRest.{settled, restFor, untriggeredClocks, settlingClocks}
 use Rattle.idle_clock.proofs.AtRest.{rest-laws}
 use Rattle.channel_b.specs.TakeBit.{takeBit, heldAfter}
 use Rattle.channel_b.specs.Laws.{firstBits, bitAfter}
@@ -36,15 +36,20 @@ use Rattle.whole_frame.specs.WholeFrame.{clocksAnswer, noClock, settledC
 one-and : (n : ℕ) → 1 + n ≡ suc n
 one-and n = omega arith
 
-three-at-least : (kind : Kind) → frameBits kind ≡ suc (suc (suc (frameBits kind - 3)))
-three-at-least Short = refl
-three-at-least Long = refl
+two-at-least : (kind : Kind) → frameBits kind ≡ suc (suc (frameBits kind - 2))
+two-at-least Short = refl
+two-at-least Long = refl
+
+-- what was under way ends before the last clock of a frame
+in-time : (kind : Kind) → settlingClocks ≤ suc (frameBits kind - 2)
+in-time Short = lit≤ tt
+in-time Long = lit≤ tt
 
 one-along : (n left : ℕ) → suc n + left ≡ n + suc left
 one-along n left = omega arith
 
 -- the last of a frame's clocks comes when all that was under way has ended
-last-clock-rests : (n : ℕ) (core : Core) → CoreFacts core → 2 ≤ n → idleClock (idleClocks n core) 0 ≡ settledClock (suc n) core
+last-clock-rests : (n : ℕ) (core : Core) → CoreFacts core → settlingClocks ≤ n → idleClock (untriggeredClocks n core) 0 ≡ settledClock (suc n) core
 last-clock-rests n core f h =
     let before = restFor n (settled core) in
     let facts = rest-laws .rest-keeps n (settled core) (rest-laws .settled-keeps core f) in
@@ -56,10 +61,10 @@ last-clock-rests n core f h =
 
 module _ (columns : Kind → List ℕ) (kind : Kind) (number : ℕ) (e : isFrame kind number ≡ true) (core : Core) where
   abbrev done : ℕ → ClockAnswer
-  done n = clockedAnswer (heldAfter kind number) (finishedBy columns kind number (idleClock (idleClocks n core) 0))
+  done n = clockedAnswer (heldAfter kind number) (finishedBy columns kind number (idleClock (untriggeredClocks n core) 0))
 
   -- the clock of a bit on a state that is known
-  module _ (a : ClockAnswer) (f : ReceiverFacts (a .receiver)) (n bit : ℕ) (small : bit < 2) (r : a .receiver ≡ receiver (idleClocks n core) (firstBits kind number n))
+  module _ (a : ClockAnswer) (f : ReceiverFacts (a .receiver)) (n bit : ℕ) (small : bit < 2) (r : a .receiver ≡ receiver (untriggeredClocks n core) (firstBits kind number n))
       (b : bit ≡ bitAfter kind number n) where
     taken : takeBit (a .receiver .held) bit ≡ takeBit (firstBits kind number n) (bitAfter kind number n)
     taken = ap₂ takeBit (ap (λ (x : Receiver). x .held) r) b
@@ -71,7 +76,7 @@ module _ (columns : Kind → List ℕ) (kind : Kind) (number : ℕ) (e : isFrame
         ∙ ap (λ (x : Receiver). clockedAnswer (heldAfter kind number) (finishedBy columns kind number (idleClock (x .core) 0))) r
 
     next-clock : 1 ≤ n → n + 1 < frameBits kind
-        → clockAnswer columns (a .receiver) 0 bit ≡ clockedAnswer (firstBits kind number (n + 1)) (idleClock (idleClocks n core) 0)
+        → clockAnswer columns (a .receiver) 0 bit ≡ clockedAnswer (firstBits kind number (n + 1)) (idleClock (untriggeredClocks n core) 0)
     next-clock h w =
         sym (step-is-clock columns (a .receiver) 0 bit f (lit< tt) small)
         ∙ unfinished-step columns (a .receiver) 0 bit (firstBits kind number (n + 1)) (taken ∙ bit-law .next-bit kind number n e h w)
@@ -86,9 +91,9 @@ module _ (columns : Kind → List ℕ) (kind : Kind) (number : ℕ) (e : isFrame
 
   -- n bits are held, and the others come
   from-held : (left n : ℕ) → n + suc left ≡ frameBits kind → 1 ≤ n → (a : ClockAnswer) → ReceiverFacts (a .receiver)
-      → a .receiver ≡ receiver (idleClocks n core) (firstBits kind number n)
+      → a .receiver ≡ receiver (untriggeredClocks n core) (firstBits kind number n)
       → clocksAnswer columns a (bitsOf (suc left) number) ≡ done (n + left)
-  unfolding clocksAnswer bitsOf idleClocks
+  unfolding clocksAnswer bitsOf untriggeredClocks
   from-held zero n w h a f r =
       let b = ap (λ (k : ℕ). number / 2 ^ k % 2) (sym (place-of n 0 (frameBits kind) w)) in
       ap (clocksAnswer columns a) (bits-law .first 0 number)
@@ -102,7 +107,7 @@ module _ (columns : Kind → List ℕ) (kind : Kind) (number : ℕ) (e : isFrame
       let is = next-clock a f n bit small r b h (omega arith) in
       ap (clocksAnswer columns a) (bits-law .first (suc left) number)
       ∙ from-held left (suc n) (omega arith) (omega arith) next (clock-facts a bit f small)
-      (ap (λ (x : ClockAnswer). x .receiver) is ∙ ap (λ (k : ℕ). receiver (idleClocks (suc n) core) (firstBits kind number k)) (add-one n))
+      (ap (λ (x : ClockAnswer). x .receiver) is ∙ ap (λ (k : ℕ). receiver (untriggeredClocks (suc n) core) (firstBits kind number k)) (add-one n))
       ∙ ap done (one-along n left)
 
 -- ---- from waiting
@@ -114,23 +119,23 @@ module _ (columns : Kind → List ℕ) (r : Receiver) (kind : Kind) (number : �
       ∙ unfinished-step columns r 0 0 (holding 1 0) (ap (λ (held : Held). takeBit held 0) (waiting-law (r .held) (f .of-held) .0 z) ∙ bit-law .start-bit)
       ∙ ap (λ (bits : ℕ). clockedAnswer (holding 1 bits) (idleClock (r .core) 0)) (sym (bits-law .start kind number e))
 
-  all-bits : (k : ℕ) → frameBits kind ≡ suc (suc (suc k)) → clocksAnswer columns (noClock r) (bitsOf (suc (suc (suc k))) number) ≡ done columns kind number e (r .core) (suc (suc k))
-  unfolding clocksAnswer idleClocks
+  all-bits : (k : ℕ) → frameBits kind ≡ suc (suc k) → clocksAnswer columns (noClock r) (bitsOf (suc (suc k)) number) ≡ done columns kind number e (r .core) (suc k)
+  unfolding clocksAnswer untriggeredClocks
   all-bits k w =
-      let place : frameBits kind - 1 ≡ suc (suc k) = omega arith in
+      let place : frameBits kind - 1 ≡ suc k = omega arith in
       let bit = ap (λ (n : ℕ). number / 2 ^ n % 2) (sym place) ∙ ap (λ (n : ℕ). n % 2) (bits-law .start kind number e) in
-      ap (clocksAnswer columns (noClock r)) (bits-law .first (suc (suc k)) number)
-      ∙ ap (λ (b : ℕ). clocksAnswer columns (clockAnswer columns r 0 b) (bitsOf (suc (suc k)) number)) bit
-      ∙ from-held columns kind number e (r .core) (suc k) 1 (omega arith) (omega arith) (clockAnswer columns r 0 0) (clock-facts columns kind number e (r .core) (noClock r) 0 f (lit< tt))
+      ap (clocksAnswer columns (noClock r)) (bits-law .first (suc k) number)
+      ∙ ap (λ (b : ℕ). clocksAnswer columns (clockAnswer columns r 0 b) (bitsOf (suc k) number)) bit
+      ∙ from-held columns kind number e (r .core) k 1 (omega arith) (omega arith) (clockAnswer columns r 0 0) (clock-facts columns kind number e (r .core) (noClock r) 0 f (lit< tt))
       (ap (λ (x : ClockAnswer). x .receiver) first-clock)
-      ∙ ap (done columns kind number e (r .core)) (one-and (suc k))
+      ∙ ap (done columns kind number e (r .core)) (one-and k)
 
   pub at-once : clocksAnswer columns (noClock r) (bitsOf (frameBits kind) number)
       ≡ clockedAnswer (heldAfter kind number) (finishedBy columns kind number (settledClock (frameBits kind) (r .core)))
   at-once =
-      let k = frameBits kind - 3 in
-      let size = three-at-least kind in
+      let k = frameBits kind - 2 in
+      let size = two-at-least kind in
       ap (λ (n : ℕ). clocksAnswer columns (noClock r) (bitsOf n number)) size
       ∙ all-bits k size
-      ∙ ap (λ (c : Clocked). clockedAnswer (heldAfter kind number) (finishedBy columns kind number c)) (last-clock-rests (suc (suc k)) (r .core) (f .of-core) (omega arith))
+      ∙ ap (λ (c : Clocked). clockedAnswer (heldAfter kind number) (finishedBy columns kind number c)) (last-clock-rests (suc k) (r .core) (f .of-core) (in-time kind))
       ∙ ap (λ (n : ℕ). clockedAnswer (heldAfter kind number) (finishedBy columns kind number (settledClock n (r .core)))) (sym size)
