@@ -290,9 +290,9 @@ ttcrx_clock_answer ttcrx_receive_long(ttcrx_receiver receiver, uint64_t number);
  *
  * Refusals, in this order: 2: a state that is not well formed; 15: a block of more than 4096 bytes;
  * 16: a buffer of fewer than five numbers for each byte of the block; 1: a byte over 3. A refused call
- * does no clock, and changes neither a field of the receiver nor a number of the buffer. The buffer's
- * length is in numbers, not in bytes. Bytes of the receiver that are no field (padding) may change in
- * any call: receivers are to be compared field by field.
+ * does no clock, and writes no byte of the receiver and no number of the buffer. The buffer's length is
+ * in numbers, not in bytes. Bytes of the receiver that are no field (padding) may change in a call that
+ * is accepted: receivers are to be compared field by field.
  */
 ttcrx_block_outcome ttcrx_run_block(ttcrx_receiver *receiver, const uint8_t *block,
                                    size_t block_length, uint32_t *buffer, size_t buffer_length);

@@ -137,6 +137,24 @@ static int refused_by(uint8_t refusal, uint8_t status5, size_t length, size_t ro
            fresh_but_status(receiver, status5) && unwritten_from(0);
 }
 
+/*
+ * A fresh receiver in memory that can't be written: a store to it, even of the same bytes, would end
+ * the program.
+ */
+static const ttcrx_receiver read_only = {
+    {{5, 5}, {0, 0, 0, 0x93, 0x85, 0xA7}, {0, 0, 1}, {0, 0}, {0, 0}},
+    {0, 0},
+};
+
+/* A refused block writes no byte of the receiver. */
+static int refused_unwritten(uint8_t refusal, size_t length, size_t room)
+{
+    ttcrx_receiver *lent = (ttcrx_receiver *)&read_only;
+    unwrite();
+    return block_is(ttcrx_run_block(lent, clocks, length, numbers, room), refusal, 0) &&
+           unwritten_from(0);
+}
+
 static void check_refused_blocks(void)
 {
     const size_t most = TTCRX_BLOCK_CLOCKS;
@@ -156,6 +174,10 @@ static void check_refused_blocks(void)
     check(refused_by(16, 1, 3, 14), "16 before 1");
     clocks[2] = 255;
     check(refused_by(1, 1, 4, 20), "a byte of 255 refused");
+    check(fresh_but_status(read_only, 1), "a fresh receiver that can't be written");
+    check(refused_unwritten(15, most + 1, BLOCK_ROOM), "15 writes no byte of the receiver");
+    check(refused_unwritten(16, 3, 14), "16 writes no byte of the receiver");
+    check(refused_unwritten(1, 3, 15), "1 writes no byte of the receiver");
 }
 
 static void check_empty_blocks(void)
