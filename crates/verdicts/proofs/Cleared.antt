@@ -67,11 +67,11 @@ reset-goes frame core idle = record { stay = λ p q. absurd (q refl); broadcast 
 long-goes : (flag word : ℕ) (idle : Clocked) (fields : Fields) (chosen : LongRow) → let frame = goodAnswer Long flag word in
     Goes (idle .core .counters) (shown frame (row (rowVerdict chosen) (rowEffect chosen fields (countErrors frame (idle .core)))) (idle .outputs))
 unfolding countErrors
-long-goes flag word idle fields Foreign = kept-goes 5 (goodAnswer Long flag word) (countErrors (goodAnswer Long flag word) (idle .core)) idle (λ p. omega arith) refl
-long-goes flag word idle fields Outside = kept-goes 4 (goodAnswer Long flag word) (countErrors (goodAnswer Long flag word) (idle .core)) idle (λ p. omega arith) refl
-long-goes flag word idle fields Store = kept-goes 2 (goodAnswer Long flag word) (storeByte (fields .sub) (fields .«data») (countErrors (goodAnswer Long flag word) (idle .core))) idle (λ p. omega arith) refl
+long-goes flag word idle fields Foreign = kept-goes (rowVerdict Foreign) (goodAnswer Long flag word) (countErrors (goodAnswer Long flag word) (idle .core)) idle (λ p. omega arith) refl
+long-goes flag word idle fields Outside = kept-goes (rowVerdict Outside) (goodAnswer Long flag word) (countErrors (goodAnswer Long flag word) (idle .core)) idle (λ p. omega arith) refl
+long-goes flag word idle fields Store = kept-goes (rowVerdict Store) (goodAnswer Long flag word) (storeByte (fields .sub) (fields .«data») (countErrors (goodAnswer Long flag word) (idle .core))) idle (λ p. omega arith) refl
 long-goes flag word idle fields Reset = reset-goes (goodAnswer Long flag word) (freshCore (idle .core .ids)) idle
-long-goes flag word idle fields Other = kept-goes 6 (goodAnswer Long flag word) (countErrors (goodAnswer Long flag word) (idle .core)) idle (λ p. omega arith) refl
+long-goes flag word idle fields Other = kept-goes (rowVerdict Other) (goodAnswer Long flag word) (countErrors (goodAnswer Long flag word) (idle .core)) idle (λ p. omega arith) refl
 
 finished-goes : (kind : Kind) (judged : Judged) (idle : Clocked) → Goes (idle .core .counters) (finished kind (answerTo kind judged) idle)
 unfolding finished countErrors doubleUp dropped oneOf

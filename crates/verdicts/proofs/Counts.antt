@@ -90,11 +90,11 @@ other-moves v flag word kind core idle d t z e =
 long-moves : (flag word : ℕ) (idle : Clocked) (fields : Fields) (chosen : LongRow) → let frame = goodAnswer Long flag word in
     Moves (idle .core .errors) (shown frame (row (rowVerdict chosen) (rowEffect chosen fields (countErrors frame (idle .core)))) (idle .outputs))
 unfolding countErrors dropped oneOf
-long-moves flag word idle fields Foreign = other-moves 5 flag word Long (countErrors (goodAnswer Long flag word) (idle .core)) idle refl (λ e. omega arith) (λ e. omega arith) refl
-long-moves flag word idle fields Outside = other-moves 4 flag word Long (countErrors (goodAnswer Long flag word) (idle .core)) idle refl (λ e. omega arith) (λ e. omega arith) refl
-long-moves flag word idle fields Store = other-moves 2 flag word Long (storeByte (fields .sub) (fields .«data») (countErrors (goodAnswer Long flag word) (idle .core))) idle refl (λ e. omega arith) (λ e. omega arith) refl
+long-moves flag word idle fields Foreign = other-moves (rowVerdict Foreign) flag word Long (countErrors (goodAnswer Long flag word) (idle .core)) idle refl (λ e. omega arith) (λ e. omega arith) refl
+long-moves flag word idle fields Outside = other-moves (rowVerdict Outside) flag word Long (countErrors (goodAnswer Long flag word) (idle .core)) idle refl (λ e. omega arith) (λ e. omega arith) refl
+long-moves flag word idle fields Store = other-moves (rowVerdict Store) flag word Long (storeByte (fields .sub) (fields .«data») (countErrors (goodAnswer Long flag word) (idle .core))) idle refl (λ e. omega arith) (λ e. omega arith) refl
 long-moves flag word idle fields Reset = reset-moves (goodAnswer Long flag word) (idle .core .ids) idle
-long-moves flag word idle fields Other = other-moves 6 flag word Long (countErrors (goodAnswer Long flag word) (idle .core)) idle refl (λ e. omega arith) (λ e. omega arith) refl
+long-moves flag word idle fields Other = other-moves (rowVerdict Other) flag word Long (countErrors (goodAnswer Long flag word) (idle .core)) idle refl (λ e. omega arith) (λ e. omega arith) refl
 
 pub finished-moves : (kind : Kind) (judged : Judged) (idle : Clocked) → Moves (idle .core .errors) (finished kind (answerTo kind judged) idle)
 unfolding finished dropped oneOf

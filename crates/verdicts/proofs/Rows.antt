@@ -113,12 +113,12 @@ other core new v z t l s i =
 
 long-facts : (core counted : Core) (fields : Fields) (chosen : LongRow) → counted .sequence ≡ core .sequence → counted .ids ≡ core .ids
     → RowFacts core (row (rowVerdict chosen) (rowEffect chosen fields counted))
-long-facts core counted fields Foreign s i = other core counted 5 (λ e. omega arith) (λ e. omega arith) (omega arith) s i
-long-facts core counted fields Outside s i = other core counted 4 (λ e. omega arith) (λ e. omega arith) (omega arith) s i
-long-facts core counted fields Store s i = other core _ 2 (λ e. omega arith) (λ e. omega arith) (omega arith) s i
+long-facts core counted fields Foreign s i = other core counted (rowVerdict Foreign) (λ e. omega arith) (λ e. omega arith) (omega arith) s i
+long-facts core counted fields Outside s i = other core counted (rowVerdict Outside) (λ e. omega arith) (λ e. omega arith) (omega arith) s i
+long-facts core counted fields Store s i = other core _ (rowVerdict Store) (λ e. omega arith) (λ e. omega arith) (omega arith) s i
 long-facts core counted fields Reset s i =
     record { not-zero = λ e. omega arith; not-larger = omega arith; reset = λ e. ap freshCore i; sequence-stays = λ n. absurd (n refl); ids-stay = i }
-long-facts core counted fields Other s i = other core counted 6 (λ e. omega arith) (λ e. omega arith) (omega arith) s i
+long-facts core counted fields Other s i = other core counted (rowVerdict Other) (λ e. omega arith) (λ e. omega arith) (omega arith) s i
 
 pub row-facts : (kind : Kind) (judged : Judged) (core : Core) → let frame = answerTo kind judged in RowFacts core (tableRow kind frame (countErrors frame core))
 unfolding countErrors doubleUp dropped oneOf

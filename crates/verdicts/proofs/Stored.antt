@@ -85,11 +85,11 @@ reset-settings frame core idle =
 long-settings : (flag word id : ℕ) (idle : Clocked) (chosen : LongRow) → Why chosen (fieldsOf Long word) id → let frame = goodAnswer Long flag word in
     Moves (idle .core .settings) (shown frame (row (rowVerdict chosen) (rowEffect chosen (fieldsOf Long word) (countErrors frame (idle .core)))) (idle .outputs))
 unfolding countErrors
-long-settings flag word id idle Foreign w = kept-settings 5 (goodAnswer Long flag word) (countErrors (goodAnswer Long flag word) (idle .core)) idle (λ e. omega arith) refl
-long-settings flag word id idle Outside w = kept-settings 4 (goodAnswer Long flag word) (countErrors (goodAnswer Long flag word) (idle .core)) idle (λ e. omega arith) refl
+long-settings flag word id idle Foreign w = kept-settings (rowVerdict Foreign) (goodAnswer Long flag word) (countErrors (goodAnswer Long flag word) (idle .core)) idle (λ e. omega arith) refl
+long-settings flag word id idle Outside w = kept-settings (rowVerdict Outside) (goodAnswer Long flag word) (countErrors (goodAnswer Long flag word) (idle .core)) idle (λ e. omega arith) refl
 long-settings flag word id idle Store w = stored-settings flag word (countErrors (goodAnswer Long flag word) (idle .core)) idle refl (w .2)
 long-settings flag word id idle Reset w = reset-settings (goodAnswer Long flag word) (freshCore (idle .core .ids)) idle
-long-settings flag word id idle Other w = kept-settings 6 (goodAnswer Long flag word) (countErrors (goodAnswer Long flag word) (idle .core)) idle (λ e. omega arith) refl
+long-settings flag word id idle Other w = kept-settings (rowVerdict Other) (goodAnswer Long flag word) (countErrors (goodAnswer Long flag word) (idle .core)) idle (λ e. omega arith) refl
 
 pub finished-settings : (kind : Kind) (judged : Judged) (idle : Clocked) → Moves (idle .core .settings) (finished kind (answerTo kind judged) idle)
 unfolding finished countErrors doubleUp dropped oneOf
