@@ -26,7 +26,7 @@ FreshWaits = (own : Ids) → Waits (freshState own)
 
 -- ---- the bits of a frame
 
--- the first n bits of a frame number of the kind, in the order sent, and the bit behind them
+-- the first n bits of a frame number of the kind, in the order sent, and the bit after them
 abbrev pub firstBits : Kind → ℕ → ℕ → Held
 firstBits kind number n = holding n (number / 2 ^ (frameBits kind - n))
 
@@ -41,7 +41,7 @@ pub record BitLaw : Type 0 where
       → takeBit (firstBits kind number n) (bitAfter kind number n) ≡ Unfinished (firstBits kind number (n + 1))
   pub last-bit : (kind : Kind) (number n : ℕ) → isFrame kind number ≡ true → n + 1 ≡ frameBits kind
       → takeBit (firstBits kind number n) (bitAfter kind number n) ≡ Finished kind number
-  -- behind the bits that a well-formed receiver holds, a bit finishes a frame or is held with them
+  -- after the bits that a well-formed receiver holds, a bit finishes a frame or is held with them
   pub later-bit : (held : Held) (bit : ℕ) → HeldFacts held → bit < 2 → isWaiting held ≡ false
       → ((kind : Kind) × (takeBit held bit ≡ Finished kind (held .bits * 2 + bit)))
       ⊎ (takeBit held bit ≡ Unfinished (holding (held .count + 1) (held .bits * 2 + bit)))

@@ -21,7 +21,7 @@ frameOrPart count bits =
     (cond (eqb count (frameBits Short) && isFrame Short bits) (Finished Short bits)
     (Unfinished (holding count bits)))
 
--- while waiting, a 1 is idle ("Idle is 1") and a 0 the start bit; otherwise the bit comes behind those held ("first bit sent = most significant").
+-- while waiting, a 1 is idle ("Idle is 1") and a 0 the start bit; otherwise the bit comes after those held ("first bit sent = most significant").
 -- Numbers have 8 and 64 bits: of a well-formed receiver the remainders change nothing.
 unfoldable pub takeBit : Held → ℕ → Taken
 takeBit held bit =

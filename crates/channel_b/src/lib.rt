@@ -44,7 +44,7 @@ fn next_count(count: u8) -> u8
     ((count as u16 + 1) % 0x100) as u8
 }
 
-// The bit behind the others, in 64 bits.
+// The bit after the others, in 64 bits.
 fn next_bits(bits: u64, bit: u8) -> u64
     ensures { λ r. ⌜ r ≡ (bits * 2 + bit) % 2 ^ 64 ⌝ }
 {

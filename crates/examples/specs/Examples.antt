@@ -32,17 +32,17 @@ abbrev sent : Encoded → List ℕ
 sent answer = answer .refusal ∷ answer .number ∷ []
 
 -- refusal, verdict, corrected flag, word, address, E, sub-address and data
-abbrev told : Answer → List ℕ
-told answer =
+abbrev numbersIn : Answer → List ℕ
+numbersIn answer =
     answer .refusal ∷ answer .verdict ∷ answer .corrected ∷ answer .word
     ∷ answer .fields .address ∷ answer .fields .e ∷ answer .fields .sub ∷ answer .fields .«data» ∷ []
 
 abbrev pub answered : Example → List ℕ
 answered (broadcast byte frame) = sent (encodeShort shortColumns byte)
 answered (long address e sub byte frame) = sent (encodeLong longColumns address e sub byte)
-answered (corrected frame byte) = told (decodeFrame shortColumns Short frame)
-answered (uncorrectable frame) = told (decodeFrame shortColumns Short frame)
-answered (uncorrectable-long frame s) = syndrome longColumns (wordBits Long frame) (checkBitsOf Long frame) ∷ told (decodeFrame longColumns Long frame)
+answered (corrected frame byte) = numbersIn (decodeFrame shortColumns Short frame)
+answered (uncorrectable frame) = numbersIn (decodeFrame shortColumns Short frame)
+answered (uncorrectable-long frame s) = syndrome longColumns (wordBits Long frame) (checkBitsOf Long frame) ∷ numbersIn (decodeFrame longColumns Long frame)
 answered (setting k byte) = settingToByte k .refusal ∷ settingToByte k .byte ∷ []
 
 -- what the paper expects, in the same order; no example is refused

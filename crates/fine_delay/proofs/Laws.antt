@@ -10,7 +10,7 @@ unfolding settingToByte byteToSetting
 delay-laws =
     record {
       refused-by-8 = λ k h. rw (lt-ltb 239 k h);
-      byte-told = λ k h. byte-answer k (omega arith);
+      byte-is = λ k h. byte-answer k (omega arith);
       refused-by-9 = λ byte h. rw (lt-ltb 239 byte h);
-      setting-told = λ byte h. setting-answer byte (omega arith);
+      setting-is = λ byte h. setting-answer byte (omega arith);
     }

@@ -8,7 +8,7 @@ pub record DelayLaws : Type 0 where
   -- 8, "setting over 239"
   pub refused-by-8 : (k : ℕ) → 239 < k → settingToByte k ≡ record { refusal = 8; byte = 0 }
   -- "Fine delay settings K run 0..239"
-  pub byte-told : (k : ℕ) → k ≤ 239 → settingToByte k ≡ record { refusal = 0; byte = byteOf k }
+  pub byte-is : (k : ℕ) → k ≤ 239 → settingToByte k ≡ record { refusal = 0; byte = byteOf k }
   -- 9, "byte over 239"
   pub refused-by-9 : (byte : ℕ) → 239 < byte → byteToSetting byte ≡ record { refusal = 9; setting = 0 }
-  pub setting-told : (byte : ℕ) → byte ≤ 239 → byteToSetting byte ≡ record { refusal = 0; setting = settingOf byte }
+  pub setting-is : (byte : ℕ) → byte ≤ 239 → byteToSetting byte ≡ record { refusal = 0; setting = settingOf byte }

@@ -39,7 +39,7 @@ abbrev pub goodAnswer : Kind → ℕ → ℕ → Answer
 goodAnswer kind flag word = record { refusal = 0; verdict = 0; corrected = flag; word = word; fields = fieldsOf kind word }
 
 -- the paper's number and values for each case. For 7, 8 and 9 "the flag is 0". "The word shown is 0" for 7 and 8, "else the corrected data".
--- A good frame has no verdict until a receiver gives it one: the verdict is 0, and flag, word and fields are told.
+-- A good frame has no verdict until a receiver gives it one: the verdict is 0, and flag, word and fields are in the answer.
 abbrev pub answerTo : Kind → Judged → Answer
 answerTo kind StopZero = bareAnswer 0 7 0
 answerTo kind Uncorrectable = bareAnswer 0 8 0

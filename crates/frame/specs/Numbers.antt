@@ -26,7 +26,7 @@ formatBit Long = 1
 abbrev pub frameBits : Kind → ℕ
 frameBits kind = 2 + dataBits kind + checkBits kind + 1
 
--- start, format, word, check bits and stop, one behind the other; the start bit is 0 and adds nothing to the number
+-- start, format, word, check bits and stop, one after the other; the start bit is 0 and adds nothing to the number
 abbrev pub frameNumber : Kind → Coded → ℕ → ℕ
 frameNumber kind sent stop = ((formatBit kind * 2 ^ dataBits kind + sent .bits) * 2 ^ checkBits kind + sent .check) * 2 + stop
 

@@ -155,7 +155,7 @@ demand3-theorem columns good =
       stays-well-formed = λ r calls e. stays-well-formed columns (laws columns good) calls r e;
       ids-stay = λ r calls. ids-stay columns (laws columns good) calls r;
       forty-one-ones = forty-one-ones columns (laws columns good);
-      one-behind-another = λ r first second.
+      one-after-another = λ r first second.
           record {
             state = run-behind columns (laws columns good) first r second;
             answers-are = answers-behind columns (laws columns good) first r second;

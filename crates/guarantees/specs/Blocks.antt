@@ -48,7 +48,7 @@ module _ (columns : Kind → List ℕ) (r : Receiver) (block : List ℕ) where
   abbrev pub recordAt : ℕ → List ℕ
   recordAt place = cond (recorded (answerAt place .outputs)) (numbersAt place) []
 
--- the lists of the places below n, one behind the other
+-- the lists of the places below n, one after the other
 unfoldable pub below : (ℕ → List ℕ) → ℕ → List ℕ
 below at zero = []
 below at (suc n) = below at n ++ at n

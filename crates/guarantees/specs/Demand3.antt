@@ -20,7 +20,7 @@ use Rattle.receiver_state.specs.Shown.{noOutputs}
 use Rattle.receiver_state.specs.WellFormed.{wellFormed}
 use Rattle.channel_b.specs.TakeBit.{Waits}
 use Rattle.guarantees.specs.Calls.{Call, clock, read, CallAnswer, CallResult, call, run, answers, refusalOf, channelB, idle}
-use Rattle.guarantees.specs.FrameLists.{Sends, SameCalls, lastCall, AsIdleBefore, OneBehindAnother, WholeList}
+use Rattle.guarantees.specs.FrameLists.{Sends, SameCalls, lastCall, AsIdleBefore, OneAfterAnother, WholeList}
 use Rattle.guarantees.specs.LastClock.{withFrame, withCorrection, withDoubleError, CleanLast, CorrectedLast, UncorrectableLast}
 
 module _ (columns : Kind → List ℕ) where
@@ -113,7 +113,7 @@ module _ (columns : Kind → List ℕ) where
     pub stays-well-formed : StaysWellFormed
     pub ids-stay : IdsStay
     pub forty-one-ones : FortyOneOnes
-    pub one-behind-another : (r : Receiver) (first second : List Call) → OneBehindAnother columns r first second
+    pub one-after-another : (r : Receiver) (first second : List Call) → OneAfterAnother columns r first second
     pub whole-list : (r : Receiver) (before : List Call) (trigger bit : ℕ) → WholeList columns r before trigger bit
     pub clean : Clean
     pub one-flip : OneFlip

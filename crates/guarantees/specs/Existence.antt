@@ -13,7 +13,7 @@ use Rattle.channel_b.specs.TakeBit.{Waits}
 use Rattle.guarantees.specs.Calls.{Call, clock, read, write, refusalOf, channelB}
 use Rattle.guarantees.specs.FrameLists.{Sends, SameCalls}
 
--- the same calls, with these bits on their clocks, one behind the other
+-- the same calls, with these bits on their clocks, one after the other
 unfoldable pub carry : List ℕ → List Call → List Call
 carry bs [] = []
 carry [] (c ∷ cs) = c ∷ cs

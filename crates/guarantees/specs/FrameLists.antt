@@ -36,8 +36,8 @@ module _ (columns : Kind → List ℕ) where
     pub answers-same : answers columns r before ≡ answers columns r (idle before)
     pub core-same : run columns r before .core ≡ run columns r (idle before) .core
 
-  -- one list behind another: the second goes on from the state that the first leaves
-  pub record OneBehindAnother (r : Receiver) (first second : List Call) : Type 0 where
+  -- one list after another: the second goes on from the state that the first leaves
+  pub record OneAfterAnother (r : Receiver) (first second : List Call) : Type 0 where
     pub state : run columns r (first ++ second) ≡ run columns (run columns r first) second
     pub answers-are : answers columns r (first ++ second) ≡ answers columns r first ++ answers columns (run columns r first) second
 

@@ -142,9 +142,9 @@ line-read-laws =
       refused-by-11 = refused-by-11;
       refused-by-12 = refused-by-12;
       accepted = accepted;
-      refusal-told = λ refusal. refl;
-      short-told = λ number. refl;
-      long-told = λ number. refl;
+      refusal-is = λ refusal. refl;
+      short-is = λ number. refl;
+      long-is = λ number. refl;
     }
 
 -- ---- the writer

@@ -32,7 +32,7 @@ abbrev pub Each : (ℕ → Type 0) → List ℕ → Type 0
 Each P [] = Unit {0}
 Each P (character ∷ characters) = P character × Each P characters
 
--- what a digit is worth, and what digits one behind the other are worth
+-- what a digit is worth, and what digits one after the other are worth
 pub record DigitLaws : Type 0 where
   -- 0-9 are worth 0 to 9, and A-F 10 to 15
   pub figures : (value : ℕ) → value ≤ 9 → digitValue (48 + value) ≡ value
@@ -70,10 +70,10 @@ pub record LineReadLaws : Type 0 where
       → readLine characters ≡ Refused 12
   pub accepted : (kind : Kind) (characters : List ℕ) → HasLength kind characters → Each Digit characters → isFrame kind (hexNumber characters) ≡ true
       → readLine characters ≡ Frame kind (hexNumber characters)
-  -- "A refused call returns its number with all other result fields 0"; "Success is number 0", and the kind is told by its format bit
-  pub refusal-told : (refusal : ℕ) → lineAnswer (Refused refusal) ≡ record { refusal = refusal; kind = 0; number = 0 }
-  pub short-told : (number : ℕ) → lineAnswer (Frame Short number) ≡ record { refusal = 0; kind = 0; number = number }
-  pub long-told : (number : ℕ) → lineAnswer (Frame Long number) ≡ record { refusal = 0; kind = 1; number = number }
+  -- "A refused call returns its number with all other result fields 0"; "Success is number 0", and the kind is its format bit
+  pub refusal-is : (refusal : ℕ) → lineAnswer (Refused refusal) ≡ record { refusal = refusal; kind = 0; number = 0 }
+  pub short-is : (number : ℕ) → lineAnswer (Frame Short number) ≡ record { refusal = 0; kind = 0; number = number }
+  pub long-is : (number : ℕ) → lineAnswer (Frame Long number) ≡ record { refusal = 0; kind = 1; number = number }
 
 -- ---- the writer
 

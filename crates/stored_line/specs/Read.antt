@@ -34,7 +34,7 @@ readLine characters =
     (cond (eqb (length characters) 11) (readAs Long characters)
     (Refused 10))
 
--- the paper's number and values for each case; the kind is told by its format bit
+-- the paper's number and values for each case; the kind is its format bit
 abbrev pub lineAnswer : StoredLine → LineAnswer
 lineAnswer (Frame kind number) = record { refusal = 0; kind = formatBit kind; number = number }
 lineAnswer (Refused refusal) = record { refusal = refusal; kind = 0; number = 0 }

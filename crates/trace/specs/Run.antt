@@ -29,7 +29,7 @@ runDone r records buffer = record { run = record { receiver = r; records = recor
 abbrev pub leaves : Running → List ℕ → RunDone
 leaves run buffer = record { run = run; buffer = buffer }
 
--- one record more, behind the others
+-- one record more, after the others
 abbrev pub withRecord : Receiver → ℕ → TraceRecord → List ℕ → RunDone
 withRecord r records new buffer = runDone r (suc records) (sets buffer (recordNumbers * records) (numbersOf new))
 
@@ -63,7 +63,7 @@ pub record ProgressFacts (progress : Progress) (block : List ℕ) : Type 0 where
 abbrev pub remaining : (Kind → List ℕ) → List ℕ → Progress → List ℕ → RunDone
 remaining columns block progress buffer = clocksRun columns (progress .next) (progress .run) (drop (progress .next) block) buffer
 
--- so many clocks at rest that finish no frame, with these bits held behind them: only the bunch counter and the bits held move
+-- so many clocks at rest that finish no frame, with these bits held after them: only the bunch counter and the bits held move
 abbrev pub restRun : ℕ → Held → Running → Running
 restRun clocks held run = record { receiver = receiver (restFor clocks (run .receiver .core)) held; records = run .records }
 

@@ -195,7 +195,7 @@ fn rest_part(progress: Progress, block: &[u8]) -> Progress
     run_rest(progress, block)
 }
 
-// Goes on by the clocks at rest that come next, and the clock behind them.
+// Goes on by the clocks at rest that come next, and the clock after them.
 fn advance(
     short: &[u8],
     long: &[u8],

@@ -22,7 +22,7 @@ fn put_record(free: &mut [u32], new: TraceRecord)
     free[4] = new.word;
 }
 
-// A record goes behind the others.
+// A record goes after the others.
 pub(crate) fn add_record(
     receiver: Receiver,
     records: usize,

@@ -61,7 +61,7 @@ fn stopped(before: Progress, filled: usize, read_failed: bool, write_failed: boo
     }
 }
 
-// The lines that end in a piece of the input, behind what is in the buffer. With room for a line's
+// The lines that end in a piece of the input, after what is in the buffer. With room for a line's
 // text for each byte, all of the piece is used.
 fn report_whole(report: Report, piece: &[u8], from: usize, out: &mut [u8]) -> Reported
     requires { ⌜ from + longestLine * length (now piece) ≤ length (now out) ⌝ }
@@ -126,7 +126,7 @@ fn read_all(input: &mut [u8], out: &mut [u8]) -> Progress
     progress
 }
 
-// The end of the report, behind what is in the buffer.
+// The end of the report, after what is in the buffer.
 fn report_last(report: Report, from: usize, out: &mut [u8]) -> usize
     requires { ⌜ from + longestEnd ≤ length (now out) ⌝ }
     ensures { λ r. ⌜ r ≤ length (now (out .exit)) ⌝ }
