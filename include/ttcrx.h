@@ -1,20 +1,21 @@
 /*
  * The C interface of the TTCrx model, libttcrx.a: frames, stored lines, fine delays, the receiver,
  * clock by clock, with register accesses between clocks, frame by frame, or a block of clocks at
- * once; and reports of stored lines.
+ * once; and reports of stored lines. docs/USING.md shows how it is used.
  *
- * Every function takes every value of its arguments. Each answer begins with the number of refusal
- * of the customer's papers (document 01, the scope; 15 and 16: document 02, the change requests): 0
- * is success; else every other field of the answer is 0, but for a state that was given, which comes
- * back as it was; a state that was lent stays, and nothing of a lent buffer was written.
- * ttcrx_well_formed, ttcrx_filled_length and the functions on reports refuse nothing, and their
- * answers have no such number.
+ * Every function takes every value of its arguments. Each answer begins with a number of refusal:
+ * TTCRX_ACCEPTED (0), or one of the TTCRX_REFUSED_ numbers. A refused call leaves every other field
+ * of its answer 0, but for a state that was given, which comes back as it was; it leaves a state that
+ * was lent as it was, and writes nothing of a lent buffer. ttcrx_version, ttcrx_well_formed,
+ * ttcrx_filled_length and the functions on reports refuse nothing, and their answers have no such
+ * number.
  *
  * A function that is lent characters, bytes or a buffer takes a pointer and a length in elements. What
  * the caller must ensure: the pointer is aligned and valid for that length, for writing too where it
  * is not const, and is not null unless the length is 0; it spans at most PTRDIFF_MAX bytes; a lent
  * receiver is one element; two regions lent to one call do not overlap; and while the function runs,
- * nothing else writes those elements, nor reads those that are lent for writing.
+ * nothing else writes those elements, nor reads those that are lent for writing. Characters may be any
+ * bytes, and no zero byte ends them.
  *
  * A frame is a number whose most significant bit is sent first: start bit, format bit, word, check
  * bits, stop bit. A short frame (broadcast) has 16 bits with a word of 8; a long frame
@@ -29,6 +30,67 @@
 #ifdef __cplusplus
 extern "C" {
 #endif
+
+/*
+ * The version of this header. It is raised by each change of a struct or of a meaning. Structs go by
+ * value, so a program must be compiled with the header of the archive that it is linked with:
+ * compare TTCRX_VERSION with ttcrx_version() once, at the start.
+ */
+#define TTCRX_VERSION 1
+
+/* The version of the archive. Refuses nothing. */
+uint32_t ttcrx_version(void);
+
+/*
+ * Numbers of refusal, the field refusal of an answer. They are the customer's (document 01, the
+ * scope; 15 and 16: document 02, the change requests). Each function says which it gives, in which
+ * order: the first that fits.
+ */
+#define TTCRX_ACCEPTED 0
+#define TTCRX_REFUSED_BIT 1            /* a trigger or data bit over 1; a byte of a block over 3 */
+#define TTCRX_REFUSED_STATE 2          /* a state that is not well formed */
+#define TTCRX_REFUSED_ID 3             /* an ID of 0 or over 16383 */
+#define TTCRX_REFUSED_I2C_ID 4         /* an I2C ID over 63 */
+#define TTCRX_REFUSED_REGISTER 5       /* a register that is not in the map */
+#define TTCRX_REFUSED_READ_ONLY 6      /* a write to register 16, 17, 18 or 22 */
+#define TTCRX_REFUSED_CONFIG 7         /* a write to 20 or 21 that differs in bits 6 to 0 */
+#define TTCRX_REFUSED_SETTING 8        /* a fine delay setting over 239 */
+#define TTCRX_REFUSED_DELAY_BYTE 9     /* a fine delay byte over 239 */
+#define TTCRX_REFUSED_LINE_LENGTH 10   /* a line that has not 4 or 11 characters */
+#define TTCRX_REFUSED_CHARACTER 11     /* a character that is not 0-9, A-F or a-f */
+#define TTCRX_REFUSED_FRAME 12         /* a number that is no frame of its kind; a kind over 1 */
+#define TTCRX_REFUSED_FIELD 13         /* an address over 16383, or e over 1 */
+#define TTCRX_REFUSED_LINE_BUFFER 14   /* a buffer too small for a line: under 5 or 12 bytes */
+#define TTCRX_REFUSED_BLOCK_LENGTH 15  /* a block of more than TTCRX_BLOCK_CLOCKS bytes */
+#define TTCRX_REFUSED_RECORD_BUFFER 16 /* fewer than five numbers of room for each byte of a block */
+
+/*
+ * Verdicts on a finished frame, the field verdict of a clock's outputs. 1 to 4 were executed; 7 to 9
+ * were dropped, and each raised the double error counter.
+ */
+#define TTCRX_VERDICT_NONE 0              /* no frame finished on this clock */
+#define TTCRX_VERDICT_BROADCAST 1         /* a short frame: data bit 0 clears the bunch counter, 1 the event counter */
+#define TTCRX_VERDICT_STORED 2            /* the data went to register 0, 1, 2 or 3 */
+#define TTCRX_VERDICT_RESET 3             /* the state became the fresh one of the same IDs */
+#define TTCRX_VERDICT_OUTSIDE 4           /* E = 1: the word was shown to the electronics outside */
+#define TTCRX_VERDICT_OTHER_ADDRESS 5     /* addressed to another receiver: no effect */
+#define TTCRX_VERDICT_OTHER_SUB_ADDRESS 6 /* a sub-address without a meaning: no effect */
+#define TTCRX_VERDICT_STOP_BIT 7          /* the stop bit was 0: dropped */
+#define TTCRX_VERDICT_UNCORRECTABLE 8     /* more bits were wrong than can be corrected: dropped */
+#define TTCRX_VERDICT_FIXED_BIT 9         /* a long frame whose fixed bit is 0 after correction: dropped */
+
+/* The field verdict of a decoder is this, or one of the verdicts 7, 8 and 9. */
+#define TTCRX_DECODED_GOOD 0
+
+/* Kinds of frames. */
+#define TTCRX_SHORT 0
+#define TTCRX_LONG 1
+
+/* What the bus shows, the field strobe of a clock's outputs. */
+#define TTCRX_STROBE_NONE 0
+#define TTCRX_STROBE_BUNCH 1
+#define TTCRX_STROBE_EVENT_LOW 2
+#define TTCRX_STROBE_EVENT_HIGH 3
 
 /* The answer of an encoder. */
 typedef struct ttcrx_encoded {
@@ -47,7 +109,8 @@ typedef struct ttcrx_fields {
 /* The answer of a decoder. A verdict of 7, 8 or 9 is no refusal. */
 typedef struct ttcrx_decoded {
     uint8_t refusal;
-    uint8_t verdict;     /* 0: a good frame; 7: stop bit 0; 8: uncorrectable; 9: fixed bit 0 */
+    uint8_t verdict;     /* TTCRX_DECODED_GOOD (0), or TTCRX_VERDICT_STOP_BIT (7), _UNCORRECTABLE (8)
+                            or _FIXED_BIT (9) */
     uint8_t corrected;   /* 1: one wrong bit was corrected; always 0 with verdicts 7, 8 and 9 */
     uint32_t word;       /* the corrected word; 0 with verdicts 7 and 8 */
     ttcrx_fields fields; /* of a good frame; 0 with verdicts 7, 8 and 9 */
@@ -56,7 +119,7 @@ typedef struct ttcrx_decoded {
 /* The answer of the reader of a line. */
 typedef struct ttcrx_line {
     uint8_t refusal;
-    uint8_t kind;    /* 0: a short frame; 1: a long one */
+    uint8_t kind;    /* TTCRX_SHORT (0) or TTCRX_LONG (1) */
     uint64_t number; /* the frame */
 } ttcrx_line;
 
@@ -146,9 +209,9 @@ typedef struct ttcrx_fresh_answer {
 typedef struct ttcrx_outputs {
     uint8_t trigger;   /* the trigger output */
     uint8_t missed;    /* 1: a trigger came while a sequence was running */
-    uint8_t strobe;    /* the bus: 0 none, 1 bunch, 2 event low, 3 event high */
-    uint16_t number;   /* the number on the bus; 0 with strobe 0 */
-    uint8_t verdict;   /* of the frame that this clock finished; 0: none finished */
+    uint8_t strobe;    /* what the bus shows: one of TTCRX_STROBE_ */
+    uint16_t number;   /* the number on the bus; 0 with TTCRX_STROBE_NONE */
+    uint8_t verdict;   /* of the frame that this clock finished: one of TTCRX_VERDICT_ */
     uint8_t corrected; /* 1: one wrong bit of it was corrected; 0 with verdicts 0, 7, 8 and 9 */
     uint32_t word;     /* its corrected word; 0 with verdicts 0, 7 and 8 */
 } ttcrx_outputs;
@@ -172,6 +235,35 @@ typedef struct ttcrx_write_answer {
     ttcrx_receiver receiver; /* the state after the write; with a refusal, the state as given */
 } ttcrx_write_answer;
 
+/*
+ * A record of a block. The buffer of ttcrx_run_block is an array of them: to lend an array of records,
+ * give (uint32_t *)records, and TTCRX_RECORD_NUMBERS numbers for each.
+ */
+typedef struct ttcrx_record {
+    uint32_t place; /* of the clock in its block, from 0 */
+    uint32_t bunch; /* the bunch counter before the clock */
+    uint32_t event; /* the event counter before the clock */
+    uint32_t code;  /* the verdict, and the bits of TTCRX_CODE_ */
+    uint32_t word;  /* as the clock shows it */
+} ttcrx_record;
+
+/* The bits of a record's code. code & TTCRX_CODE_VERDICT is one of TTCRX_VERDICT_. */
+#define TTCRX_CODE_VERDICT 15
+#define TTCRX_CODE_CORRECTED 16 /* one wrong bit of the frame was corrected */
+#define TTCRX_CODE_TRIGGER 32   /* a trigger came on this clock */
+#define TTCRX_CODE_MISSED 64    /* while a sequence was running */
+
+/* The clocks that a block may have, and the numbers of a record: a buffer of both multiplied is always
+   enough. */
+#define TTCRX_BLOCK_CLOCKS 4096
+#define TTCRX_RECORD_NUMBERS 5
+
+#if defined(__cplusplus) && __cplusplus >= 201103L
+static_assert(sizeof(ttcrx_record) == TTCRX_RECORD_NUMBERS * sizeof(uint32_t), "no padding");
+#elif defined(__STDC_VERSION__) && __STDC_VERSION__ >= 201112L
+_Static_assert(sizeof(ttcrx_record) == TTCRX_RECORD_NUMBERS * sizeof(uint32_t), "no padding");
+#endif
+
 /* What a block answers; its state stays in the receiver that was lent. */
 typedef struct ttcrx_block_outcome {
     uint8_t refusal;
@@ -180,11 +272,14 @@ typedef struct ttcrx_block_outcome {
 
 /* The characters of a line so far, as far as they matter. */
 typedef struct ttcrx_line_part {
-    uint8_t count;          /* how many they are; 12 for more than 11 (a larger one is taken as 12) */
-    uint8_t characters[11]; /* the characters; those beyond the count do not matter */
+    uint8_t count;       /* how many they are; 12 for more than 11 (a larger one is taken as 12) */
+    char characters[11]; /* the characters; those beyond the count do not matter */
 } ttcrx_line_part;
 
-/* What a report of stored lines keeps between two pieces of input. */
+/*
+ * What a report of stored lines keeps between two pieces of input. A report may start with any
+ * receiver, and go on with any: set the field receiver.
+ */
 typedef struct ttcrx_report {
     ttcrx_receiver receiver;
     uint64_t lines; /* lines reported so far; past 2^64 - 1 it goes on from 0 */
@@ -196,63 +291,79 @@ typedef struct ttcrx_reported {
     ttcrx_report report;
     size_t used;    /* bytes of the input used, from its front */
     size_t written; /* bytes of the buffer written, from its front; those beyond stay */
+    size_t room_wanted; /* 0: all was done. Else room stopped the call: go on with a buffer of at least
+                           so many bytes, TTCRX_LONGEST_LINE or TTCRX_LONGEST_END; with a smaller one
+                           no call can do anything */
 } ttcrx_reported;
+
+/* Room for the text of any line, and room that is always enough for the end. */
+#define TTCRX_LONGEST_LINE 34
+#define TTCRX_LONGEST_END 65
 
 /* The short frame of a byte. Refuses nothing. */
 ttcrx_encoded ttcrx_encode_short(uint8_t data);
 
-/* The long frame of these fields. Refusal 13: address over 16383, or e over 1. */
+/* The long frame of these fields. Refusal 13: address over 16383, or e over 1; the number is then 0. */
 ttcrx_encoded ttcrx_encode_long(uint16_t address, uint8_t e, uint8_t sub_address, uint8_t data);
 
-/* What a number says as a short frame. Refusal 12: the number is 2^14 or more. */
+/*
+ * What a number says as a short frame. Refusal 12: the number is 2^14 or more; all other fields are
+ * then 0.
+ */
 ttcrx_decoded ttcrx_decode_short(uint64_t number);
 
-/* What a number says as a long frame. Refusal 12: number / 2^40 is not 1. */
+/*
+ * What a number says as a long frame. Refusal 12: number / 2^40 is not 1; all other fields are then 0.
+ */
 ttcrx_decoded ttcrx_decode_long(uint64_t number);
 
 /*
  * The frame of a stored line: its characters, without the line feed. Refusals, in this order:
  * 10: not 4 or 11 characters; 11: a character that is not 0-9, A-F or a-f; 12: a number that is no
- * short frame (4 characters) or no long frame (11), as for the decoders. The stop bit may be 0.
+ * short frame (4 characters) or no long frame (11), as for the decoders. Kind and number are then 0.
+ * The stop bit may be 0.
  */
-ttcrx_line ttcrx_read_line(const uint8_t *characters, size_t length);
+ttcrx_line ttcrx_read_line(const char *characters, size_t length);
 
 /*
  * Writes the line of a short frame to the front of the buffer: 4 capital digits and a line feed.
- * Later bytes stay. Refusals, in this order: 12: no short frame; 14: a buffer under 5 bytes.
+ * Later bytes stay. Refusals, in this order: 12: no short frame; 14: a buffer under 5 bytes. No byte
+ * is then written, and the length is 0.
  */
-ttcrx_written ttcrx_write_short(uint64_t number, uint8_t *buffer, size_t length);
+ttcrx_written ttcrx_write_short(uint64_t number, char *buffer, size_t length);
 
 /*
  * Writes the line of a long frame to the front of the buffer: 11 capital digits and a line feed.
- * Later bytes stay. Refusals, in this order: 12: no long frame; 14: a buffer under 12 bytes.
+ * Later bytes stay. Refusals, in this order: 12: no long frame; 14: a buffer under 12 bytes. No byte
+ * is then written, and the length is 0.
  */
-ttcrx_written ttcrx_write_long(uint64_t number, uint8_t *buffer, size_t length);
+ttcrx_written ttcrx_write_long(uint64_t number, char *buffer, size_t length);
 
-/* The byte of a fine delay setting. Refusal 8: a setting over 239. */
+/* The byte of a fine delay setting. Refusal 8: a setting over 239; the byte is then 0. */
 ttcrx_byte_answer ttcrx_delay_byte(uint8_t setting);
 
-/* The setting of a fine delay byte. Refusal 9: a byte over 239. */
+/* The setting of a fine delay byte. Refusal 9: a byte over 239; the setting is then 0. */
 ttcrx_setting_answer ttcrx_delay_setting(uint8_t byte);
 
-/* Whether a state is well formed: 1 or 0. */
+/* Whether a state is well formed: 1 or 0. Refuses nothing. */
 uint8_t ttcrx_well_formed(ttcrx_receiver receiver);
 
 /*
  * The fresh state of a receiver. Refusals, in this order: 3: an ID of 0 or over 16383; 4: an I2C ID
- * over 63.
+ * over 63. Every field of the receiver is then 0, and it is not well formed.
  */
 ttcrx_fresh_answer ttcrx_fresh(uint16_t id, uint8_t i2c);
 
 /*
  * One clock, with a bit of channel A (the trigger) and a bit of channel B (the data). Refusals, in
- * this order: 2: a state that is not well formed; 1: a bit over 1.
+ * this order: 2: a state that is not well formed; 1: a bit over 1. The receiver is then the one given,
+ * and all outputs are 0.
  */
 ttcrx_clock_answer ttcrx_clock(ttcrx_receiver receiver, uint8_t trigger, uint8_t data);
 
 /*
  * The byte that a register holds; the state stays as it is. Refusals, in this order: 2: a state that
- * is not well formed; 5: a register that is not in the map.
+ * is not well formed; 5: a register that is not in the map. The byte is then 0.
  */
 ttcrx_read_answer ttcrx_read(ttcrx_receiver receiver, uint8_t number);
 
@@ -260,39 +371,40 @@ ttcrx_read_answer ttcrx_read(ttcrx_receiver receiver, uint8_t number);
  * Writes a byte to a register. Registers 0 to 3, 20 and 21 store it; a write to any byte of a
  * counter clears all of the counter, whatever the value; register 11 stays 0. Refusals, in this
  * order: 2: a state that is not well formed; 5: a register that is not in the map; 6: register 16,
- * 17, 18 or 22; 7: register 20 or 21, and a byte that differs from the fresh one in bits 6 to 0.
+ * 17, 18 or 22; 7: register 20 or 21, and a byte that differs from the fresh one in bits 6 to 0. The
+ * receiver is then the one given.
  */
 ttcrx_write_answer ttcrx_write(ttcrx_receiver receiver, uint8_t number, uint8_t value);
 
 /*
- * Feeds a whole short frame to the receiver: its bits in the order sent, one a clock, without
- * triggers. The answer is that of the last clock. Refusals, in this order: 2: a state that is not well
- * formed; 12: a number that is no short frame, as for the decoder.
+ * Feeds a whole frame to the receiver: its bits in the order sent, one a clock, without triggers. The
+ * answer is that of the last clock. Kind and number are as ttcrx_read_line answers them. Refusals, in
+ * this order: 2: a state that is not well formed; 12: a kind over 1, or a number that is no frame of
+ * this kind, as for the decoders. The receiver is then the one given, no clock is done, and all
+ * outputs are 0.
  */
+ttcrx_clock_answer ttcrx_receive(ttcrx_receiver receiver, uint8_t kind, uint64_t number);
+
+/* The same with kind TTCRX_SHORT. */
 ttcrx_clock_answer ttcrx_receive_short(ttcrx_receiver receiver, uint64_t number);
 
-/* The same for a long frame. */
+/* The same with kind TTCRX_LONG. */
 ttcrx_clock_answer ttcrx_receive_long(ttcrx_receiver receiver, uint64_t number);
-
-/* The clocks that a block may have, and the numbers of a record: a buffer of both multiplied is always
-   enough. */
-#define TTCRX_BLOCK_CLOCKS 4096
-#define TTCRX_RECORD_NUMBERS 5
 
 /*
  * The clocks of a whole block on the receiver that is lent: one byte a clock, in order; bit 0 is the
  * trigger, bit 1 channel B. The receiver becomes the one that these clocks leave, done singly.
  *
- * Each clock with a trigger, or with a verdict other than 0, writes a record behind the last, from the
- * front of the buffer. Its five numbers: the clock's place in the block, from 0; the bunch counter
- * before the clock; the event counter before it; verdict + 16 * corrected + 32 * trigger + 64 * missed
- * as the clock shows them; its word. The numbers after the last record stay as they were.
+ * Each clock with a trigger, or with a verdict other than 0, writes a record after the last one, from
+ * the front of the buffer. Its five numbers are those of ttcrx_record; the code is verdict
+ * + 16 * corrected + 32 * trigger + 64 * missed as the clock shows them. The numbers after the last
+ * record stay as they were.
  *
  * Refusals, in this order: 2: a state that is not well formed; 15: a block of more than 4096 bytes;
  * 16: a buffer of fewer than five numbers for each byte of the block; 1: a byte over 3. A refused call
- * does no clock, and writes no byte of the receiver and no number of the buffer. The buffer's length is
- * in numbers, not in bytes. Bytes of the receiver that are no field (padding) may change in a call that
- * is accepted: receivers are to be compared field by field.
+ * does no clock, and writes no byte of the receiver and no number of the buffer; records is 0. The
+ * buffer's length is in numbers, not in bytes. Bytes of the receiver that are no field (padding) may
+ * change in a call that is accepted: receivers are to be compared field by field.
  */
 ttcrx_block_outcome ttcrx_run_block(ttcrx_receiver *receiver, const uint8_t *block,
                                    size_t block_length, uint32_t *buffer, size_t buffer_length);
@@ -305,13 +417,10 @@ size_t ttcrx_filled_length(size_t buffer_length, size_t records);
 
 /*
  * A report of stored lines at the beginning of its input: what the program ttclines does, with a
- * fresh receiver of ID 5 and I2C ID 5. The three functions on reports refuse nothing.
+ * fresh receiver of ID 5 and I2C ID 5. For another receiver, set the field receiver of the answer.
+ * The three functions on reports refuse nothing.
  */
 ttcrx_report ttcrx_report_start(void);
-
-/* Room for the text of any line, and room that is always enough for the end. */
-#define TTCRX_LONGEST_LINE 34
-#define TTCRX_LONGEST_END 65
 
 /*
  * Reports the lines that end in a piece of the input, each as ttclines prints it: the line's number,
@@ -320,20 +429,22 @@ ttcrx_report ttcrx_report_start(void);
  * has 2 digits in a line of 4 characters and 8 in one of 11, also if the receiver given held bits of
  * another frame, so that the line's last bit finishes that one, or none (verdict 0).
  *
- * It works until the piece is used up or fewer than TTCRX_LONGEST_LINE bytes of the buffer are free;
- * a smaller buffer uses no input and writes nothing. Input that was not used is to be given again, at
- * the front of the next piece. How the input is cut into pieces does not show in the text.
+ * It works until the piece is used up or fewer than TTCRX_LONGEST_LINE bytes of the buffer are free.
+ * If input is left, room_wanted is TTCRX_LONGEST_LINE, else 0: write out the text, and give the rest
+ * of the input again, at the front of the next piece, with a buffer of so many bytes at least. A
+ * smaller buffer uses no input and writes nothing, however often it is given. How the input is cut
+ * into pieces does not show in the text.
  */
-ttcrx_reported ttcrx_report_input(ttcrx_report report, const uint8_t *input, size_t input_length,
-                                  uint8_t *buffer, size_t buffer_length);
+ttcrx_reported ttcrx_report_input(ttcrx_report report, const char *input, size_t input_length,
+                                  char *buffer, size_t buffer_length);
 
 /*
  * At the end of the input: reports a last line without line feed, if it has any character, as
  * ttcrx_report_input does; then writes the line "end", single errors, double errors, event count and
- * bunch count of the receiver. With a buffer of under TTCRX_LONGEST_END bytes nothing is written, and
- * the report stays. Uses no input.
+ * bunch count of the receiver; room_wanted is 0. With a buffer of under TTCRX_LONGEST_END bytes
+ * nothing is written, the report stays, and room_wanted is TTCRX_LONGEST_END. Uses no input.
  */
-ttcrx_reported ttcrx_report_end(ttcrx_report report, uint8_t *buffer, size_t buffer_length);
+ttcrx_reported ttcrx_report_end(ttcrx_report report, char *buffer, size_t buffer_length);
 
 #ifdef __cplusplus
 }

@@ -19,11 +19,12 @@ use Rattle.line_report.specs.declared.LinePart.{LinePart}
 use Rattle.line_report.specs.declared.Report.{Report}
 use Rattle.line_report.specs.Text.{coreEndText}
 use Rattle.line_report.specs.Output.{lastLine, linesAfter, feedLine, nextLine, linePrints, linesPrint, linesLeave, outputOf}
-use Rattle.line_report.specs.Report.{noCharacters, emptyPart, withCharacter, readPart, report, startReport, lineEnded, lineEndPrints, afterByte, bytePrints, afterBytes, bytesPrint, longestLine, Work, work, behind, workOn, reportDone, doneBy, reportInput, longestEnd, afterLast, lastPrints, endPrints, endWork, reportEnd}
-use Rattle.line_report.specs.Cuts.{Offer, writtenBy, offered, reportAll, GoodOffers, Piece, inputOf, offersOf, RoomForAll, CutsTheorem, ReportCuts, LongestReached}
+use Rattle.line_report.specs.Report.{noCharacters, emptyPart, withCharacter, readPart, report, startReport, lineEnded, lineEndPrints, afterByte, bytePrints, afterBytes, bytesPrint, longestLine, Work, work, behind, workOn, reportDone, doneBy, roomWanted, reportInput, longestEnd, afterLast, lastPrints, endPrints, endWork, endWanted, reportEnd}
+use Rattle.line_report.specs.Cuts.{Offer, writtenBy, offered, reportAll, GoodOffers, Piece, inputOf, offersOf, RoomForAll, WantedNone, WantedLine, WantedHelps, CutsTheorem, ReportCuts, LongestReached}
 use Rattle.frame.specs.Columns.{columnsOf}
 use Rattle.line_report.proofs.LineSoFar.{Kept, Dropped, Holds, none-yet, holds-one, holds-read}
 use Rattle.line_report.proofs.Work.{no-room, byte-fits}
+use Rattle.line_report.proofs.Turn.{none-wanted, line-wanted}
 
 module _ (columns : Kind → List ℕ) where
   -- ---- bytes one behind the other
@@ -97,8 +98,8 @@ module _ (columns : Kind → List ℕ) where
       rw (le-ltb room longestLine enough)
       (ap suc (room-for-all (room - length text) (afterByte columns now byte) bytes (omega (arith, byte-fits columns now byte))))
 
-  written-is : (w : Work) (buffer : List ℕ) → writtenBy (doneBy w buffer) ≡ w .text
-  written-is w buffer = take-append-seam (w .text) (drop (length (w .text)) buffer)
+  written-is : (wanted : ℕ) (w : Work) (buffer : List ℕ) → writtenBy (doneBy wanted w buffer) ≡ w .text
+  written-is wanted w buffer = take-append-seam (w .text) (drop (length (w .text)) buffer)
 
   -- ---- a list of calls
 
@@ -111,7 +112,7 @@ module _ (columns : Kind → List ℕ) where
       let same : take (w .used) (take (offer .count) input) ≡ take (w .used) input = take-take (w .used) (offer .count) input few in
       record {
         inside = omega (arith, d .inside, length-take (offer .count) input);
-        text-is = written-is w (offer .buffer) ∙ d .text-is ∙ ap (bytesPrint columns now) same;
+        text-is = written-is (roomWanted (w .used) (length (take (offer .count) input))) w (offer .buffer) ∙ d .text-is ∙ ap (bytesPrint columns now) same;
         report-is = d .report-is ∙ ap (afterBytes columns now) same;
       }
 
@@ -264,7 +265,7 @@ module _ (columns : Kind → List ℕ) where
       let reported : all .report ≡ afterBytes columns startReport input = d .report-is ∙ ap (afterBytes columns startReport) front in
       let end = end-is (all .report) buffer room in
       ap₂ (λ (a b : List ℕ). a ++ b) (d .text-is ∙ ap (bytesPrint columns startReport) front)
-      (written-is (endWork columns (length buffer) (all .report)) buffer ∙ ap (λ (w : Work). w .text) end ∙ ap (endPrints columns) reported)
+      (written-is (endWanted (length buffer)) (endWork columns (length buffer) (all .report)) buffer ∙ ap (λ (w : Work). w .text) end ∙ ap (endPrints columns) reported)
       ∙ by-lines input startReport [] (none-yet noCharacters refl)
 
   -- ---- the receiver, byte for byte and line by line
@@ -315,6 +316,46 @@ module _ (columns : Kind → List ℕ) where
   unfolding endWork
   small-end now buffer h = rw (lt-ltb (length buffer) longestEnd h) refl
 
+  end-wanted : (buffer : List ℕ) → length buffer < longestEnd → endWanted (length buffer) ≡ longestEnd
+  unfolding endWanted
+  end-wanted buffer h = rw (lt-ltb (length buffer) longestEnd h) refl
+
+  end-not-wanted : (buffer : List ℕ) → longestEnd ≤ length buffer → endWanted (length buffer) ≡ 0
+  unfolding endWanted
+  end-not-wanted buffer h = rw (le-ltb (length buffer) longestEnd h) refl
+
+  -- ---- the room that is wanted
+
+  abbrev doneOf : Report → List ℕ → List ℕ → Work
+  doneOf now input buffer = workOn columns (length buffer) now input
+
+  wanted-none : WantedNone columns
+  wanted-none now input buffer =
+      let w = doneOf now input buffer in
+      let inside = work-done (length buffer) now input .inside in (
+        λ none. by-test (ltb (w .used) (length input))
+            (λ t. absurd (let some = line-wanted (w .used) (length input) (ltb-true (w .used) (length input) t) in omega arith))
+            (λ t. let all : length input ≤ w .used = ltb-false (w .used) (length input) t in omega arith),
+        λ all. none-wanted (w .used) (length input) (omega arith),
+      )
+
+  wanted-line : WantedLine columns
+  wanted-line now input buffer =
+      let w = doneOf now input buffer in
+      by-test (ltb (w .used) (length input))
+      (λ t. inr (line-wanted (w .used) (length input) (ltb-true (w .used) (length input) t)))
+      (λ t. inl (none-wanted (w .used) (length input) (ltb-false (w .used) (length input) t)))
+
+  wanted-helps : WantedHelps columns
+  wanted-helps now input buffer buffer₁ some room =
+      let w = doneOf now input buffer in
+      by-test (ltb (w .used) (length input))
+      (λ t.
+      let less : w .used < length input = ltb-true (w .used) (length input) t in
+      let is = line-wanted (w .used) (length input) less in
+      uses-one (length buffer₁) (w .report) (drop (w .used) input) (omega (arith, length-drop (w .used) input)) (omega (arith, is)))
+      (λ t. absurd (let none = none-wanted (w .used) (length input) (ltb-false (w .used) (length input) t) in omega arith))
+
   left : (input : List ℕ) (offers : List Offer) (buffer : List ℕ) → let all = reportAll columns startReport input offers in
       all .used ≡ length input → longestEnd ≤ length buffer
       → reportEnd columns (all .report) buffer .answer .report .receiver ≡ linesLeave columns (startReport .receiver) (linesAfter [] input)
@@ -353,13 +394,17 @@ pub cuts-theorem : CutsTheorem
 cuts-theorem columns =
     record {
       no-longer = byte-fits columns;
-      small-buffer = λ now input buffer h. ap (λ (w : Work). doneBy w buffer) (no-room columns (length buffer) now input h);
+      small-buffer = λ now input buffer h. ap (λ (w : Work). doneBy (roomWanted (w .used) (length input)) w buffer) (no-room columns (length buffer) now input h);
       goes-on = λ now input buffer some h. uses-one columns (length buffer) now input some h;
       all-or-full = λ now input buffer. all-or-no-room columns (length buffer) now input;
+      wanted-none = wanted-none columns;
+      wanted-line = wanted-line columns;
+      wanted-helps = wanted-helps columns;
       enough-room = λ now input buffer h. room-for-all columns (length buffer) now input h;
       same-text = λ now input offers. calls-done columns now input offers .text-is;
       same-report = λ now input offers. calls-done columns now input offers .report-is;
-      small-end = λ now buffer h. ap (λ (w : Work). doneBy w buffer) (small-end columns now buffer h);
+      small-end = λ now buffer h. ap₂ (λ (wanted : ℕ) (w : Work). doneBy wanted w buffer) (end-wanted columns buffer h) (small-end columns now buffer h);
+      end-done = λ now buffer h. end-not-wanted columns buffer h;
       used-up = calls-use-all columns;
       pieces-used-up = pieces-used columns;
       whole-output = whole columns;

@@ -5,7 +5,7 @@ use mathlib.Core.List.{List, [], _∷_, _++_}
 use Prim.Native.Nat.{ℕ, suc, _+_, _-_, _≤_, _<_}
 use native.Mathlib.Nat.{add-zero, zero-add, sub-zero}
 use native.Mathlib.Omega.{arith}
-use borrow.Author.Tests.{le-ltb}
+use borrow.Author.Tests.{lt-ltb, le-ltb}
 use lib.Dec.{eqb}
 use lib.ListN.{length, take, drop, length-append, length-drop, drop-of-length-le}
 use lib.Seq.{sets, take-all, drop-drop}
@@ -18,15 +18,32 @@ use Rattle.line_report.specs.declared.Report.{Report}
 use Rattle.line_report.specs.declared.Reported.{Reported}
 use Rattle.line_report.specs.Text.{coreEndText}
 use Rattle.line_report.specs.Write.{TextAt}
-use Rattle.line_report.specs.Report.{report, withCharacters, readPart, lineEnded, lineEndPrints, untilFeed, longestLine, Work, work, workOn, reportDone, doneBy, reportInput, longestEnd, afterLast, lastPrints, endWork, reportEnd}
+use Rattle.line_report.specs.Report.{report, withCharacters, readPart, lineEnded, lineEndPrints, untilFeed, longestLine, Work, work, workOn, reportDone, doneBy, roomWanted, reportInput, longestEnd, afterLast, lastPrints, endWork, endWanted, reportEnd}
 use Rattle.line_report.specs.Turn.{placed, finishedFrom, Turned}
 use Rattle.laws.proofs.Sets.{sets-append, sets-front}
 use Rattle.line_report.proofs.Write.{then-text, kept-length}
 use Rattle.line_report.proofs.Bounds.{part-small, line-length, last-length}
 use Rattle.line_report.proofs.Work.{no-room, to-the-end, lineTo, textTo, workBehind, to-the-feed, work-fits}
 
+-- an answer that no lack of room has stopped
 abbrev reported : Report → ℕ → ℕ → Reported
-reported now used written = record { report = now; used = used; written = written }
+reported now used written = record { report = now; used = used; written = written; «room_wanted» = 0 }
+
+-- and one of a piece of `size` bytes, as the definition has it
+abbrev reportedOf : ℕ → Report → ℕ → ℕ → Reported
+reportedOf size now used written = record { report = now; used = used; written = written; «room_wanted» = roomWanted used size }
+
+-- ---- the room that is wanted
+
+pub none-wanted : (used size : ℕ) → size ≤ used → roomWanted used size ≡ 0
+unfolding roomWanted
+none-wanted used size h = rw (le-ltb used size h) refl
+
+pub line-wanted : (used size : ℕ) → used < size → roomWanted used size ≡ longestLine
+unfolding roomWanted
+line-wanted used size h = rw (lt-ltb used size h) refl
+
+-- ---- a turn
 
 pub until-le : (bytes : List ℕ) → untilFeed bytes ≤ length bytes
 unfolding untilFeed
@@ -34,19 +51,20 @@ until-le [] = omega arith
 until-le (byte ∷ bytes) = picked (λ (n : ℕ). n ≤ suc (length bytes)) (eqb byte 10) (omega arith) (let rest = until-le bytes in omega arith)
 
 -- nothing more is done
-placed-nothing : (now : Report) (used written : ℕ) (buffer : List ℕ) → placed used written buffer (work now 0 []) ≡ reportDone (reported now used written) buffer
-placed-nothing now used written buffer =
-    ap₂ (λ (u w : ℕ). reportDone (reported now u w) buffer) (add-zero used) (add-zero written)
+placed-nothing : (size : ℕ) (now : Report) (used written : ℕ) (buffer : List ℕ)
+    → placed size used written buffer (work now 0 []) ≡ reportDone (reportedOf size now used written) buffer
+placed-nothing size now used written buffer =
+    ap₂ (λ (u w : ℕ). reportDone (reportedOf size now u w) buffer) (add-zero used) (add-zero written)
 
 -- a text, and what is placed behind it
-placed-behind : (used written n : ℕ) (buffer text : List ℕ) (rest : Work)
-    → placed (used + suc n) (written + length text) (sets buffer written text) rest
-    ≡ placed used written buffer (work (rest .report) (suc (n + rest .used)) (text ++ rest .text))
-placed-behind used written n buffer text rest =
+placed-behind : (size used written n : ℕ) (buffer text : List ℕ) (rest : Work)
+    → placed size (used + suc n) (written + length text) (sets buffer written text) rest
+    ≡ placed size used written buffer (work (rest .report) (suc (n + rest .used)) (text ++ rest .text))
+placed-behind size used written n buffer text rest =
     let used-same : (used + suc n) + rest .used ≡ used + suc (n + rest .used) = omega arith in
     let written-same : (written + length text) + length (rest .text) ≡ written + length (text ++ rest .text) = omega (arith, length-append text (rest .text)) in
-    ap₂ (λ (u w : ℕ). reportDone (reported (rest .report) u w) (sets (sets buffer written text) (written + length text) (rest .text))) used-same written-same
-    ∙ ap (reportDone (reported (rest .report) (used + suc (n + rest .used)) (written + length (text ++ rest .text)))) (sym (sets-append text (rest .text) buffer written))
+    ap₂ (λ (u w : ℕ). reportDone (reportedOf size (rest .report) u w) (sets (sets buffer written text) (written + length text) (rest .text))) used-same written-same
+    ∙ ap (reportDone (reportedOf size (rest .report) (used + suc (n + rest .used)) (written + length (text ++ rest .text)))) (sym (sets-append text (rest .text) buffer written))
 
 all-used : (columns : Kind → List ℕ) (room : ℕ) (now : Report) (used : ℕ) (input : List ℕ) → length input ≤ used
     → workOn columns room now (drop used input) ≡ work now 0 []
@@ -74,13 +92,14 @@ module _ (columns : Kind → List ℕ) (before : Reported) (input buffer : List 
       let room′ = length buffer - before .written in
       record {
         same =
-            ap (placed (length input) (before .written) buffer) (all-used columns room′ next (length input) input (omega arith))
-            ∙ placed-nothing next (length input) (before .written) buffer
-            ∙ sym (ap (placed (before .used) (before .written) buffer) (to-the-end columns room′ (before .report) restOf enough none)
-            ∙ ap₂ (λ (u w : ℕ). reportDone (reported next u w) buffer) size-of-rest (add-zero (before .written)));
+            ap (placed (length input) (length input) (before .written) buffer) (all-used columns room′ next (length input) input (omega arith))
+            ∙ placed-nothing (length input) next (length input) (before .written) buffer
+            ∙ sym (ap (placed (length input) (before .used) (before .written) buffer) (to-the-end columns room′ (before .report) restOf enough none)
+            ∙ ap₂ (λ (u w : ℕ). reportDone (reportedOf (length input) next u w) buffer) size-of-rest (add-zero (before .written)));
         onward = some;
         within = omega arith;
         fits = omega arith;
+        not-stopped = refl;
       }
 
   -- a line ends
@@ -97,11 +116,11 @@ module _ (columns : Kind → List ℕ) (before : Reported) (input buffer : List 
       let room-same : length buffer′ - next ≡ room′ - length text = omega (arith, t .next-is, kept-length t) in
       record {
         same =
-            ap₂ (λ (m : ℕ) (rest : List ℕ). placed (before .used + suc n) next buffer′ (workOn columns m ended rest)) room-same
+            ap₂ (λ (m : ℕ) (rest : List ℕ). placed (length input) (before .used + suc n) next buffer′ (workOn columns m ended rest)) room-same
             (sym (drop-drop (suc n) (before .used) input))
-            ∙ ap₂ (λ (w : ℕ) (b : List ℕ). placed (before .used + suc n) w b (workBehind columns room′ (before .report) restOf n)) (t .next-is) (t .stored)
-            ∙ placed-behind (before .used) (before .written) n buffer text (workBehind columns room′ (before .report) restOf n)
-            ∙ ap (placed (before .used) (before .written) buffer) (sym (to-the-feed columns room′ (before .report) restOf enough found));
+            ∙ ap₂ (λ (w : ℕ) (b : List ℕ). placed (length input) (before .used + suc n) w b (workBehind columns room′ (before .report) restOf n)) (t .next-is) (t .stored)
+            ∙ placed-behind (length input) (before .used) (before .written) n buffer text (workBehind columns room′ (before .report) restOf n)
+            ∙ ap (placed (length input) (before .used) (before .written) buffer) (sym (to-the-feed columns room′ (before .report) restOf enough found));
         onward = omega arith;
         within = omega (arith, size-of-rest);
         fits =
@@ -111,6 +130,7 @@ module _ (columns : Kind → List ℕ) (before : Reported) (input buffer : List 
               kept-length t,
               line-length columns (before .report .receiver) (before .report .lines) (lineTo columns (before .report) restOf n) (part-small _),
             );
+        not-stopped = refl;
       }
 
   -- ---- the same in the code's own terms
@@ -155,20 +175,28 @@ module _ (columns : Kind → List ℕ) (now : Report) (input buffer : List ℕ) 
   pub all-to-do : finishedFrom columns (reported now 0 0) input buffer ≡ reportInput columns now input buffer
   all-to-do =
       let done = workOn columns (length buffer) now input in
-      ap (λ (room : ℕ). placed 0 0 buffer (workOn columns room now input)) (sub-zero (length buffer))
-      ∙ ap₂ (λ (u w : ℕ). reportDone (reported (done .report) u w) (sets buffer 0 (done .text))) (zero-add (done .used)) (zero-add (length (done .text)))
-      ∙ ap (reportDone (reported (done .report) (done .used) (length (done .text)))) (sets-front (done .text) buffer (work-fits columns (length buffer) now input))
+      ap (λ (room : ℕ). placed (length input) 0 0 buffer (workOn columns room now input)) (sub-zero (length buffer))
+      ∙ ap₂ (λ (u w : ℕ). reportDone (reportedOf (length input) (done .report) u w) (sets buffer 0 (done .text))) (zero-add (done .used)) (zero-add (length (done .text)))
+      ∙ ap (reportDone (reportedOf (length input) (done .report) (done .used) (length (done .text)))) (sets-front (done .text) buffer (work-fits columns (length buffer) now input))
 
   -- after the last one: the input is used up, or there is no room
-  pub used-up : (done : Reported) (buffer′ : List ℕ) → length input ≤ done .used → finishedFrom columns done input buffer′ ≡ reportDone done buffer′
-  used-up done buffer′ h =
-      ap (placed (done .used) (done .written) buffer′) (all-used columns (length buffer′ - done .written) (done .report) (done .used) input h)
-      ∙ placed-nothing (done .report) (done .used) (done .written) buffer′
+  pub used-up : (done : Reported) (buffer′ : List ℕ) → length input ≤ done .used → done .«room_wanted» ≡ 0
+      → finishedFrom columns done input buffer′ ≡ reportDone done buffer′
+  used-up done buffer′ h none =
+      ap (placed (length input) (done .used) (done .written) buffer′) (all-used columns (length buffer′ - done .written) (done .report) (done .used) input h)
+      ∙ placed-nothing (length input) (done .report) (done .used) (done .written) buffer′
+      ∙ ap (λ (n : ℕ). reportDone (record { report = done .report; used = done .used; written = done .written; «room_wanted» = n }) buffer′)
+      (none-wanted (done .used) (length input) h ∙ sym none)
 
-  pub no-more-room : (done : Reported) (buffer′ : List ℕ) → length buffer′ - done .written < longestLine → finishedFrom columns done input buffer′ ≡ reportDone done buffer′
-  no-more-room done buffer′ h =
-      ap (placed (done .used) (done .written) buffer′) (no-room columns (length buffer′ - done .written) (done .report) (drop (done .used) input) h)
-      ∙ placed-nothing (done .report) (done .used) (done .written) buffer′
+  -- the answer then has the room for a line's text in it
+  pub no-more-room : (done : Reported) (buffer′ : List ℕ) → done .used < length input → length buffer′ - done .written < longestLine
+      → finishedFrom columns done input buffer′
+      ≡ reportDone (record { report = done .report; used = done .used; written = done .written; «room_wanted» = longestLine }) buffer′
+  no-more-room done buffer′ left h =
+      ap (placed (length input) (done .used) (done .written) buffer′) (no-room columns (length buffer′ - done .written) (done .report) (drop (done .used) input) h)
+      ∙ placed-nothing (length input) (done .report) (done .used) (done .written) buffer′
+      ∙ ap (λ (n : ℕ). reportDone (record { report = done .report; used = done .used; written = done .written; «room_wanted» = n }) buffer′)
+      (line-wanted (done .used) (length input) left)
 
 -- ---- the end
 
@@ -184,11 +212,11 @@ pub all-ended : (columns : Kind → List ℕ) (now ended : Report) {buffer buffe
     → ended ≡ afterLast columns now → TextAt next 0 (lastPrints columns now) buffer buffer₁
     → TextAt written next (coreEndText (ended .receiver .core)) buffer₁ buffer₂ → written ≤ next + 31
     → reportDone (reported ended 0 written) buffer₂ ≡ reportEnd columns now buffer
-unfolding endWork
+unfolding endWork endWanted
 all-ended columns now ended {buffer} room e s t below =
     let both = then-text (lastPrints columns now) (coreEndText (ended .receiver .core)) s t in
     let text = lastPrints columns now ++ coreEndText (ended .receiver .core) in
     let fits : length text ≤ length buffer = omega (arith, both .next-is, s .next-is, last-length columns now) in
     ap₂ (λ (w : ℕ) (b : List ℕ). reportDone (reported ended 0 w) b) (both .next-is ∙ zero-add (length text)) (both .stored ∙ sets-front text buffer fits)
-    ∙ ap (λ (r : Report). doneBy (work r 0 (lastPrints columns now ++ coreEndText (r .receiver .core))) buffer) e
+    ∙ ap (λ (r : Report). doneBy 0 (work r 0 (lastPrints columns now ++ coreEndText (r .receiver .core))) buffer) e
     ∙ rw (le-ltb (length buffer) longestEnd room) refl

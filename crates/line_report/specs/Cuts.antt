@@ -2,14 +2,14 @@
 -- Proved in proofs/Cuts.antt.
 use Prim.Native.Nat.{ℕ, _+_, _-_, _*_, _^_, _≤_, _<_}
 use mathlib.Core.Path.{_≡_}
-use mathlib.Core.Logic.{_⊎_}
+use mathlib.Core.Logic.{_⊎_, _↔_}
 use mathlib.Core.List.{List, [], _∷_, _++_}
 use lib.ListN.{length, take, drop}
 use Rattle.frame.specs.declared.Kind.{Kind}
 use Rattle.frame.specs.Columns.{columnsOf}
 use Rattle.line_report.specs.declared.Report.{Report}
 use Rattle.line_report.specs.Output.{linesOf, linesLeave, ownReceiver, outputOf}
-use Rattle.line_report.specs.Report.{linePart, report, startReport, bytePrints, afterBytes, bytesPrint, longestLine, Work, work, ReportDone, reportDone, reportInput, longestEnd, reportEnd}
+use Rattle.line_report.specs.Report.{linePart, report, startReport, bytePrints, afterBytes, bytesPrint, longestLine, Work, work, ReportDone, reportDone, roomWanted, reportInput, longestEnd, reportEnd}
 
 -- ---- a list of calls
 
@@ -57,6 +57,28 @@ abbrev pub RoomForAll : List Piece → Type 0
 RoomForAll [] = Unit {0}
 RoomForAll (piece ∷ pieces) = (longestLine * length (piece .bytes) ≤ length (piece .buffer)) × RoomForAll pieces
 
+-- ---- the room that is wanted
+
+module _ (columns : Kind → List ℕ) where
+  -- none exactly if all of the input was used
+  abbrev pub WantedNone : Type 0
+  WantedNone =
+      (now : Report) (input buffer : List ℕ) → let done = reportInput columns now input buffer .answer in
+      (done .«room_wanted» ≡ 0) ↔ (done .used ≡ length input)
+
+  -- else it is room for a line's text
+  abbrev pub WantedLine : Type 0
+  WantedLine =
+      (now : Report) (input buffer : List ℕ) → let done = reportInput columns now input buffer .answer in
+      (done .«room_wanted» ≡ 0) ⊎ (done .«room_wanted» ≡ longestLine)
+
+  -- and whoever gives so much goes on with the rest of the input
+  abbrev pub WantedHelps : Type 0
+  WantedHelps =
+      (now : Report) (input buffer buffer₁ : List ℕ) → let done = reportInput columns now input buffer .answer in
+      1 ≤ done .«room_wanted» → done .«room_wanted» ≤ length buffer₁
+      → 1 ≤ reportInput columns (done .report) (drop (done .used) input) buffer₁ .answer .used
+
 -- ---- the statement
 
 pub record Cuts (columns : Kind → List ℕ) : Type 0 where
@@ -64,12 +86,16 @@ pub record Cuts (columns : Kind → List ℕ) : Type 0 where
   pub no-longer : (now : Report) (byte : ℕ) → length (bytePrints columns now byte) ≤ longestLine
   -- a buffer too small for a line's text: no input is used and nothing is written
   pub small-buffer : (now : Report) (input buffer : List ℕ) → length buffer < longestLine
-      → reportInput columns now input buffer ≡ reportDone (record { report = now; used = 0; written = 0 }) buffer
+      → reportInput columns now input buffer ≡ reportDone (record { report = now; used = 0; written = 0; «room_wanted» = roomWanted 0 (length input) }) buffer
   -- otherwise some input is used, if there is any; and all of it, or else the buffer has no room for another line's text
   pub goes-on : (now : Report) (input buffer : List ℕ) → 1 ≤ length input → longestLine ≤ length buffer
       → 1 ≤ reportInput columns now input buffer .answer .used
   pub all-or-full : (now : Report) (input buffer : List ℕ) → let done = reportInput columns now input buffer .answer in
       (done .used ≡ length input) ⊎ (length buffer < done .written + longestLine)
+  -- what the field `room_wanted` says: see above
+  pub wanted-none : WantedNone columns
+  pub wanted-line : WantedLine columns
+  pub wanted-helps : WantedHelps columns
   -- room for a line's text for each byte is always enough
   pub enough-room : (now : Report) (input buffer : List ℕ) → longestLine * length input ≤ length buffer
       → reportInput columns now input buffer .answer .used ≡ length input
@@ -80,7 +106,8 @@ pub record Cuts (columns : Kind → List ℕ) : Type 0 where
       all .report ≡ afterBytes columns now (take (all .used) input)
   -- a buffer too small for the end, which `longestEnd` bytes are always enough for: nothing is written, and the report stays
   pub small-end : (now : Report) (buffer : List ℕ) → length buffer < longestEnd
-      → reportEnd columns now buffer ≡ reportDone (record { report = now; used = 0; written = 0 }) buffer
+      → reportEnd columns now buffer ≡ reportDone (record { report = now; used = 0; written = 0; «room_wanted» = longestEnd }) buffer
+  pub end-done : (now : Report) (buffer : List ℕ) → longestEnd ≤ length buffer → reportEnd columns now buffer .answer .«room_wanted» ≡ 0
   -- as many good offers as bytes use up the input, and so do its pieces with room for all
   pub used-up : (now : Report) (input : List ℕ) (offers : List Offer) → GoodOffers offers → length input ≤ length offers
       → reportAll columns now input offers .used ≡ length input

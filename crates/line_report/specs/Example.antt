@@ -5,7 +5,7 @@ use mathlib.Core.List.{List, [], _∷_, _++_}
 use Rattle.frame.specs.Columns.{columnsOf}
 use Rattle.line_report.specs.Output.{outputOf}
 
--- lines one behind the other, each with its line feed
+-- lines one after the other, each with its line feed
 abbrev pub endedLines : List (List ℕ) → List ℕ
 endedLines [] = []
 endedLines (line ∷ lines) = (line ++ (10 ∷ [])) ++ endedLines lines

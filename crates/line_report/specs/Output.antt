@@ -21,7 +21,7 @@ abbrev pub lastLine : List ℕ → List (List ℕ)
 lastLine [] = []
 lastLine (character ∷ characters) = (character ∷ characters) ∷ []
 
--- the lines of an input behind the characters of a line so far. A line feed, 10, ends a line: "An empty line is a line".
+-- the lines of an input after the characters of a line so far. A line feed, 10, ends a line: "An empty line is a line".
 unfoldable pub linesAfter : List ℕ → List ℕ → List (List ℕ)
 linesAfter characters [] = lastLine characters
 linesAfter characters (byte ∷ bytes) = cond (eqb byte 10) (characters ∷ linesAfter [] bytes) (linesAfter (characters ++ (byte ∷ [])) bytes)
@@ -42,7 +42,7 @@ feedLine columns r (Refused refusal) = refusedClock refusal r
 abbrev pub nextLine : ℕ → ℕ
 nextLine lines = (lines + 1) % 2 ^ 64
 
--- the text of a line that comes behind so many lines
+-- the text of a line that comes after so many lines
 abbrev pub linePrints : (Kind → List ℕ) → Receiver → ℕ → StoredLine → List ℕ
 linePrints columns r lines line = lineText (nextLine lines) (wordDigits line) (feedLine columns r line)
 

@@ -112,7 +112,7 @@ pub record Work : Type 0 where
 abbrev pub work : Report → ℕ → List ℕ → Work
 work now used text = record { report = now; used = used; text = text }
 
--- the same behind a byte of input that printed a text
+-- the same after a byte of input that printed a text
 abbrev pub behind : List ℕ → Work → Work
 behind text rest = work (rest .report) (suc (rest .used)) (text ++ rest .text)
 
@@ -133,16 +133,21 @@ pub record ReportDone : Type 0 where
 abbrev pub reportDone : Reported → List ℕ → ReportDone
 reportDone answer buffer = record { answer = answer; buffer = buffer }
 
--- a text at the front of the buffer
-abbrev pub doneBy : Work → List ℕ → ReportDone
-doneBy done buffer =
+-- a text at the front of the buffer; and the room that was wanted, if its lack stopped the call
+abbrev pub doneBy : ℕ → Work → List ℕ → ReportDone
+doneBy wanted done buffer =
     reportDone
-    (record { report = done .report; used = done .used; written = length (done .text) })
+    (record { report = done .report; used = done .used; written = length (done .text); «room_wanted» = wanted })
     (done .text ++ drop (length (done .text)) buffer)
+
+-- of a piece of `size` bytes some were not used: nothing but the lack of room for a line's text stops a call
+unfoldable pub roomWanted : ℕ → ℕ → ℕ
+roomWanted used size = cond (ltb used size) longestLine 0
 
 -- what `report_input` gives
 abbrev pub reportInput : (Kind → List ℕ) → Report → List ℕ → List ℕ → ReportDone
-reportInput columns now input buffer = doneBy (workOn columns (length buffer) now input) buffer
+reportInput columns now input buffer =
+    doneBy (roomWanted (workOn columns (length buffer) now input .used) (length input)) (workOn columns (length buffer) now input) buffer
 
 -- ---- the end of input
 
@@ -167,6 +172,10 @@ module _ (columns : Kind → List ℕ) where
   unfoldable pub endWork : ℕ → Report → Work
   endWork room now = cond (ltb room longestEnd) (work now 0 []) (work (afterLast now) 0 (endPrints now))
 
+-- and the room is wanted
+unfoldable pub endWanted : ℕ → ℕ
+endWanted room = cond (ltb room longestEnd) longestEnd 0
+
 -- what `report_end` gives
 abbrev pub reportEnd : (Kind → List ℕ) → Report → List ℕ → ReportDone
-reportEnd columns now buffer = doneBy (endWork columns (length buffer) now) buffer
+reportEnd columns now buffer = doneBy (endWanted (length buffer)) (endWork columns (length buffer) now) buffer

@@ -5,7 +5,7 @@ use mathlib.Core.List.{List}
 use lib.ListN.{length}
 use lib.Seq.{sets}
 
--- the place behind the text, and what the buffer then holds
+-- the place after the text, and what the buffer then holds
 pub record TextAt (next at : ℕ) (text before after : List ℕ) : Type 0 where
   pub next-is : next ≡ at + length text
   pub stored : after ≡ sets before at text

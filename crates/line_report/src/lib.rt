@@ -44,15 +44,17 @@ pub struct Report {
     pub part: LinePart,
 }
 
-// What a call answers: the report, the bytes of input used and the bytes of the buffer written.
+// What a call answers: the report, the bytes of input used, the bytes of the buffer written, and the
+// room that was wanted where its lack stopped the call.
 #[repr(C)]
 pub struct Reported {
     pub report: Report,
     pub used: usize,
     pub written: usize,
+    pub room_wanted: usize,
 }
 
-// What a line's end leaves: the report, and the place behind its text in the buffer.
+// What a line's end leaves: the report, and the place after its text in the buffer.
 struct Ended {
     report: Report,
     next: usize,
@@ -170,6 +172,7 @@ fn report_line(before: Reported, input: &[u8], out: &mut [u8]) -> Reported
             report,
             used: input.len(),
             written: before.written,
+            room_wanted: 0,
         };
     }
     let characters = part.characters;
@@ -180,6 +183,7 @@ fn report_line(before: Reported, input: &[u8], out: &mut [u8]) -> Reported
         report,
         used: from + until + 1,
         written: ended.next,
+        room_wanted: 0,
     }
 }
 
@@ -193,12 +197,14 @@ pub fn report_input(report: Report, input: &[u8], out: &mut [u8]) -> Reported
         report,
         used: 0,
         written: 0,
+        room_wanted: 0,
     };
     loop {
         if input.len() <= done.used {
             return done;
         }
         if out.len() - done.written < LONGEST_LINE {
+            done.room_wanted = LONGEST_LINE;
             return done;
         }
         done = report_line(done, input, out);
@@ -215,6 +221,7 @@ pub fn report_end(report: Report, out: &mut [u8]) -> Reported
             report,
             used: 0,
             written: 0,
+            room_wanted: LONGEST_END,
         };
     }
     let last = end_last(report, out);
@@ -232,5 +239,6 @@ pub fn report_end(report: Report, out: &mut [u8]) -> Reported
         report: ended,
         used: 0,
         written,
+        room_wanted: 0,
     }
 }

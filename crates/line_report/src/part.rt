@@ -72,7 +72,7 @@ pub(crate) fn read_part(part: LinePart) -> StoredLine
     read_first(characters, part.count as usize)
 }
 
-// The line that ends behind these characters of it and more. One that is not cut needs no copy.
+// The line that ends after these characters of it and more. One that is not cut needs no copy.
 pub(crate) fn read_behind(count: u8, characters: [u8; 11], more: &[u8]) -> StoredLine
     ensures { λ r. ⌜ r ≡ readPart (withCharacters (linePart count characters) (now (more .entry))) ⌝ }
 {

@@ -1,5 +1,5 @@
 // Document 01, "Stored lines": the text of a line's report, and of the end. Each function stores its
-// text from a place of the buffer on, where there is room for it, and answers the place behind it.
+// text from a place of the buffer on, where there is room for it, and answers the place after it.
 ghost use mathlib.Core.List.{[], _∷_};
 ghost use Prim.Native.Nat.{_+_, _≤_, _<_};
 ghost use lib.ListN.{length};

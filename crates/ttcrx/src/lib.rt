@@ -14,10 +14,12 @@ ghost use Rattle.receiver_state.specs.State.{freshAnswer};
 ghost use Rattle.receiver_state.specs.WellFormed.{wellFormed};
 ghost use Rattle.receiver.specs.Clock.{clockAnswer};
 ghost use Rattle.whole_frame.specs.WholeFrame.{receiveAnswer};
+ghost use Rattle.whole_frame.specs.ByFormat.{receiveByFormat};
 ghost use Rattle.trace.specs.Block.{blockDone, runBlock};
 ghost use Rattle.trace.specs.Filled.{filledLength};
 ghost use Rattle.registers.specs.Access.{readAnswer, writeAnswer};
 ghost use Rattle.line_report.specs.Report.{startReport, reportDone, reportInput, reportEnd};
+ghost use Rattle.ttcrx.specs.Version.{interfaceVersion};
 use fine_delay::DelayByte;
 use fine_delay::DelaySetting;
 use fine_delay::delay_byte;
@@ -51,13 +53,24 @@ use stored_line::read_line;
 use stored_line::write_line;
 use trace::filled_length;
 use trace::run_block;
+use whole_frame::receive_by_format;
 use whole_frame::receive_frame;
+
+// TTCRX_VERSION of include/ttcrx.h.
+pub const VERSION: u32 = 1;
 
 // What a block answers a caller who lends the receiver.
 #[repr(C)]
 pub struct BlockOutcome {
     pub refusal: u8,
     pub records: usize,
+}
+
+#[no_mangle]
+pub extern "C" fn ttcrx_version() -> u32
+    ensures { λ r. ⌜ r ≡ interfaceVersion ⌝ }
+{
+    VERSION
 }
 
 #[no_mangle]
@@ -159,6 +172,13 @@ pub extern "C" fn ttcrx_write(receiver: Receiver, number: u8, value: u8) -> Writ
     ensures { λ r. ⌜ r ≡ writeAnswer receiver number value ⌝ }
 {
     write(receiver, number, value)
+}
+
+#[no_mangle]
+pub extern "C" fn ttcrx_receive(receiver: Receiver, kind: u8, number: u64) -> ClockAnswer
+    ensures { λ r. ⌜ r ≡ receiveByFormat columnsOf receiver kind number ⌝ }
+{
+    receive_by_format(receiver, kind, number)
 }
 
 #[no_mangle]

@@ -1,3 +1,4 @@
 pub mod WholeFrame
 pub mod AtOnce
 pub mod WholeFrameLaw
+pub mod ByFormatLaws

@@ -1,1 +1,2 @@
 pub mod WholeFrame
+pub mod ByFormat

@@ -13,6 +13,7 @@ ghost use Rattle.receiver_state.specs.State.{isWaiting};
 ghost use Rattle.receiver_state.specs.WellFormed.{ReceiverFacts};
 ghost use Rattle.receiver.specs.Clock.{stepAnswer};
 ghost use Rattle.whole_frame.specs.WholeFrame.{clocksAnswer, noClock, receiveAnswer};
+ghost use Rattle.whole_frame.specs.ByFormat.{kindOf, receiveByFormat};
 use channel_b::Taken;
 use channel_b::held_after;
 use channel_b::take_bit;
@@ -116,4 +117,27 @@ pub fn receive_frame(receiver: Receiver, kind: Kind, number: u64) -> ClockAnswer
         return receive_waiting(&short[..8], &long, receiver, kind, number);
     }
     receive_bits(&short[..8], &long, receiver, frame_bits(kind), number)
+}
+
+// The kind of frame with this format bit; any number but 0 counts as 1.
+fn kind_of(format: u8) -> Kind
+    ensures { λ r. ⌜ r ≡ kindOf format ⌝ }
+{
+    if format == 0 {
+        return Kind::Short;
+    }
+    Kind::Long
+}
+
+// A whole frame whose kind is given by its format bit, as a line that was read has it.
+pub fn receive_by_format(receiver: Receiver, format: u8, number: u64) -> ClockAnswer
+    ensures { λ r. ⌜ r ≡ receiveByFormat columnsOf receiver format number ⌝ }
+{
+    if format > 1 {
+        if !well_formed(receiver) {
+            return refuse_clock(2, receiver);
+        }
+        return refuse_clock(12, receiver);
+    }
+    receive_frame(receiver, kind_of(format), number)
 }

@@ -3,19 +3,18 @@ use mathlib.Core.Path.{refl}
 use native.Mathlib.Omega.{arith}
 use borrow.Author.Tests.{lt-ltb}
 use Rattle.frame.specs.Columns.{columnsOf}
-use Rattle.line_report.specs.Report.{longestEnd, endWork}
 use Rattle.line_report.proofs.Turn.{counts-room, written-below, all-ended}
 use mathlib.Core.Path.{_≡_, refl, sym, ap, _∙_}
 use Prim.Native.Nat.{_+_, _≤_}
 use borrow.Author.Tests.{lt-ltb, le-ltb}
 use lib.ListN.{length}
-use Rattle.line_report.specs.Report.{longestEnd, endWork, reportEnd}
+use Rattle.line_report.specs.Report.{longestEnd, endWork, endWanted, reportEnd}
 use borrow.Author.Needs.{needs}
 use Rattle.line_report.proofs.report_end.Statement.{statement}
 use Rattle.line_report.proofs.report_end.Tie as tie
 
 returns : tie.Need-returns
-unfolding endWork
+unfolding endWork endWanted
 returns c = (rw (lt-ltb _ longestEnd (c .if1 .taken)) refl, search needs)
 
 end-last-requires : tie.Need-end-last-requires

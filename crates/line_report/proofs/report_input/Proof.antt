@@ -14,13 +14,13 @@ use Rattle.line_report.proofs.report_input.Statement.{statement}
 use Rattle.line_report.proofs.report_input.Tie as tie
 
 abbrev Inv-loop : tie.InvT-loop
-Inv-loop input out₀ done₀ out done = (done .used ≤ length input) × (done .written ≤ length out) × (length out ≡ length out₀) × (finishedFrom columnsOf done input out ≡ finishedFrom columnsOf done₀ input out₀)
+Inv-loop input out₀ done₀ out done = (done .used ≤ length input) × (done .written ≤ length out) × (length out ≡ length out₀) × (done .«room_wanted» ≡ 0) × (finishedFrom columnsOf done input out ≡ finishedFrom columnsOf done₀ input out₀)
 
 abbrev μ-loop : tie.MeasureT-loop
 μ-loop input out₀ done₀ out done = length input - done .used
 
 loop-holds : tie.Need-loop-holds Inv-loop μ-loop
-loop-holds c = (search needs, search needs, refl, refl)
+loop-holds c = (search needs, search needs, refl, refl, refl)
 
 same-length : tie.Need-same-length Inv-loop μ-loop
 same-length c = search needs
@@ -29,7 +29,7 @@ returns : tie.Need-returns Inv-loop μ-loop
 returns c =
     let given = c .before .before .before .before .before .args in
     let done = c .before .before .loop in (
-      sym (used-up columnsOf (given .report) (given .input .now) (given .out .now) (done .done) (done .out) (c .if1 .taken)) ∙ done .inv .3
+      sym (used-up columnsOf (given .report) (given .input .now) (given .out .now) (done .done) (done .out) (c .if1 .taken) (done .inv .3)) ∙ done .inv .4
           ∙ all-to-do columnsOf (given .report) (given .input .now) (given .out .now),
       (done .inv .0, omega (arith, done .inv .1, done .inv .2)),
     )
@@ -44,7 +44,7 @@ returns-2 : tie.Need-returns-2 Inv-loop μ-loop
 returns-2 c =
     let given = c .before .before .before .before .before .before .before .args in
     let done = c .before .before .before .before .loop in (
-      sym (no-more-room columnsOf (given .report) (given .input .now) (given .out .now) (done .done) (done .out) (c .if2 .taken)) ∙ done .inv .3
+      sym (no-more-room columnsOf (given .report) (given .input .now) (given .out .now) (done .done) (done .out) (c .before .before .if1 .left) (c .if2 .taken)) ∙ done .inv .4
           ∙ all-to-do columnsOf (given .report) (given .input .now) (given .out .now),
       (done .inv .0, omega (arith, done .inv .1, done .inv .2)),
     )
@@ -61,7 +61,7 @@ loop-again : tie.Need-loop-again Inv-loop μ-loop
 loop-again c =
     let turned = c .before .before .report-line in
     let inv = c .before .before .before .before .before .before .before .before .loop .inv in
-    (turned .ensures .within, turned .ensures .fits, turned .kept .1 .1 .0 ∙ inv .2, turned .ensures .same ∙ inv .3)
+    (turned .ensures .within, turned .ensures .fits, turned .kept .1 .1 .0 ∙ inv .2, turned .ensures .not-stopped, turned .ensures .same ∙ inv .4)
 
 pub report-input-spec : {M : Type 1} → statement M
 report-input-spec =
