@@ -3,7 +3,8 @@
 # make demo: proves and builds the program, and shows what it prints of docs/example.txt, line by line and in words.
 # make test: the gate: the layout of the source files, from nothing every proof and must-fail edit, then library and program against the
 # independent model.
-# make compare: library and program against the independent model of host/, called from Rust, C and C++, and the two examples of README.md.
+# make compare: library and program against the independent model of host/, called from Rust, C and C++; the examples of README.md and
+# docs/USING.md; and the tests against wrong libraries, each of which they must find.
 # make bench: measures program and library beside the independent model, and prints the tables.
 # make layout: says which Rattle, antt and Rust files are not in the layout. make fmt: puts them in it.
 .PHONY: library demo compare bench layout test fmt
@@ -50,9 +51,21 @@ compare: library
 	target/interface-c
 	g++ -std=c++17 $(WARNINGS) -Iinclude -x c++ host/c/interface.c -x none $(ARCHIVE) -o target/interface-cxx
 	target/interface-cxx
-	gcc -std=c11 $(WARNINGS) -Iinclude host/c/example.c $(ARCHIVE) -o target/example-c
-	target/example-c
-	cargo run $(HOST) --profile test --example receive
+	@set -e; for file in host/c/examples/*; do \
+		case $$file in *.c) compiler='gcc -std=c11';; *) compiler='g++ -std=c++17';; esac; \
+		$$compiler $(WARNINGS) -Iinclude $$file $(ARCHIVE) -o target/example; \
+		target/example > target/example.log 2>&1 || { cat target/example.log; exit 1; }; \
+		echo "$$file runs"; \
+	done
+	gcc -shared -o target/libttcrx.so -Wl,--whole-archive $(ARCHIVE) -Wl,--no-whole-archive
+	gcc -std=c11 $(WARNINGS) -Iinclude host/c/examples/correct.c -Ltarget -lttcrx -Wl,-rpath,$(CURDIR)/target -o target/example
+	target/example
+	@set -e; for file in host/examples/*.rs; do \
+		cargo run $(HOST) --profile test --example $$(basename $$file .rs); \
+		echo "$$file runs"; \
+	done
+	cargo run $(HOST) --profile test --bin three_flips
+	host/wrong/run
 
 bench: library
 	cargo build --release $(HOST)
@@ -61,6 +74,7 @@ bench: library
 layout:
 	rt fmt --check
 	cargo fmt --check --manifest-path host/Cargo.toml
+	cargo fmt --check --manifest-path host/wrong/Cargo.toml
 
 # rt ci removes target/, so the comparison comes after it and builds the library from the crates that it has just proved. The last line of
 # rt ci, 'N passed, M failed', is kept back in .ci/log, and printed once the comparison has passed too. A pipe has the status of its last
@@ -76,3 +90,4 @@ test: layout
 fmt:
 	rt fmt
 	cargo fmt --manifest-path host/Cargo.toml
+	cargo fmt --manifest-path host/wrong/Cargo.toml

@@ -42,9 +42,8 @@ extern "C" {
 uint32_t ttcrx_version(void);
 
 /*
- * Numbers of refusal, the field refusal of an answer. They are the customer's (document 01, the
- * scope; 15 and 16: document 02, the change requests). Each function says which it gives, in which
- * order: the first that fits.
+ * Numbers of refusal, the field refusal of an answer. Each function says which it gives, in which
+ * order: if several fit, the first is given. They are not verdicts: refusal 7 is not verdict 7.
  */
 #define TTCRX_ACCEPTED 0
 #define TTCRX_REFUSED_BIT 1            /* a trigger or data bit over 1; a byte of a block over 3 */
@@ -66,10 +65,12 @@ uint32_t ttcrx_version(void);
 
 /*
  * Verdicts on a finished frame, the field verdict of a clock's outputs. 1 to 4 were executed; 7 to 9
- * were dropped, and each raised the double error counter.
+ * were dropped, and each raised the double error counter, which stays at 255 once it is there. A
+ * frame with verdict 1, 2, 4, 5 or 6 that was corrected raised the single error counter, which stays
+ * at 65535. RESET clears both.
  */
 #define TTCRX_VERDICT_NONE 0              /* no frame finished on this clock */
-#define TTCRX_VERDICT_BROADCAST 1         /* a short frame: data bit 0 clears the bunch counter, 1 the event counter */
+#define TTCRX_VERDICT_BROADCAST 1         /* short: data bit 0 clears the bunch, 1 the event counter */
 #define TTCRX_VERDICT_STORED 2            /* the data went to register 0, 1, 2 or 3 */
 #define TTCRX_VERDICT_RESET 3             /* the state became the fresh one of the same IDs */
 #define TTCRX_VERDICT_OUTSIDE 4           /* E = 1: the word was shown to the electronics outside */
@@ -77,7 +78,7 @@ uint32_t ttcrx_version(void);
 #define TTCRX_VERDICT_OTHER_SUB_ADDRESS 6 /* a sub-address without a meaning: no effect */
 #define TTCRX_VERDICT_STOP_BIT 7          /* the stop bit was 0: dropped */
 #define TTCRX_VERDICT_UNCORRECTABLE 8     /* more bits were wrong than can be corrected: dropped */
-#define TTCRX_VERDICT_FIXED_BIT 9         /* a long frame whose fixed bit is 0 after correction: dropped */
+#define TTCRX_VERDICT_FIXED_BIT 9         /* the fixed bit of a long frame is 0: dropped */
 
 /* The field verdict of a decoder is this, or one of the verdicts 7, 8 and 9. */
 #define TTCRX_DECODED_GOOD 0
@@ -85,6 +86,10 @@ uint32_t ttcrx_version(void);
 /* Kinds of frames. */
 #define TTCRX_SHORT 0
 #define TTCRX_LONG 1
+
+/* The address of every receiver, and the sub-address of RESET. */
+#define TTCRX_ADDRESS_ALL 0
+#define TTCRX_SUB_ADDRESS_RESET 6
 
 /* What the bus shows, the field strobe of a clock's outputs. */
 #define TTCRX_STROBE_NONE 0
@@ -98,9 +103,12 @@ typedef struct ttcrx_encoded {
     uint64_t number; /* the frame */
 } ttcrx_encoded;
 
-/* The fields of a frame. A short frame has data alone; its other fields are 0. */
+/*
+ * The fields of a frame. A short frame has data alone; its other fields are 0. The word of a long
+ * frame is address (bits 31 to 18), e (17), a fixed 1 (16), sub-address (15 to 8), data (7 to 0).
+ */
 typedef struct ttcrx_fields {
-    uint16_t address;    /* 0 to 16383 */
+    uint16_t address;    /* 0 to 16383; 0 is for every receiver */
     uint8_t e;           /* 0: the receiver itself; 1: the electronics outside */
     uint8_t sub_address;
     uint8_t data;
@@ -142,8 +150,8 @@ typedef struct ttcrx_setting_answer {
 } ttcrx_setting_answer;
 
 /*
- * The state of a receiver: a struct by value. Any copy may be kept and clocked further. Its ranges
- * are those of "Well formed" in document 01; ttcrx_well_formed tests them.
+ * The state of a receiver: a struct by value. Any copy may be kept and clocked further. A state
+ * within the ranges below is well formed; ttcrx_well_formed tests it.
  */
 typedef struct ttcrx_ids {
     uint16_t id; /* 1 to 16383 */
@@ -164,15 +172,19 @@ typedef struct ttcrx_settings {
 typedef struct ttcrx_errors {
     uint16_t single_errors;
     uint8_t double_errors;
-    uint8_t status5; /* 0 or 1 */
+    uint8_t status5; /* 0 after a frame whose stop bit was 0; 1 after any other, and fresh */
 } ttcrx_errors;
 
 typedef struct ttcrx_counters {
-    uint16_t bunch; /* under 4096 */
-    uint32_t event; /* under 2^24 */
+    uint16_t bunch; /* clocks, under 4096; then 0 again */
+    uint32_t event; /* triggers, under 2^24; then 0 again */
 } ttcrx_counters;
 
-/* The words that a started sequence has still to show on the bus. */
+/*
+ * A trigger starts a sequence on the bus, by bits 1 and 0 of register 3: 0: nothing; 1: the bunch
+ * number on the same clock; 2: event low on the same clock, event high on the next; 3: bunch number,
+ * event low, event high on three clocks. These are the words that it has still to show.
+ */
 typedef struct ttcrx_sequence {
     uint8_t left;   /* 0, 1 or 2 */
     uint32_t event; /* the kept event number, under 2^24; 0 with no words left */
@@ -208,7 +220,8 @@ typedef struct ttcrx_fresh_answer {
 /* What a clock shows. */
 typedef struct ttcrx_outputs {
     uint8_t trigger;   /* the trigger output */
-    uint8_t missed;    /* 1: a trigger came while a sequence was running */
+    uint8_t missed;    /* 1: a trigger came while a sequence had words left. It is counted like any
+                          other, but its own numbers are not shown */
     uint8_t strobe;    /* what the bus shows: one of TTCRX_STROBE_ */
     uint16_t number;   /* the number on the bus; 0 with TTCRX_STROBE_NONE */
     uint8_t verdict;   /* of the frame that this clock finished: one of TTCRX_VERDICT_ */
@@ -237,7 +250,7 @@ typedef struct ttcrx_write_answer {
 
 /*
  * A record of a block. The buffer of ttcrx_run_block is an array of them: to lend an array of records,
- * give (uint32_t *)records, and TTCRX_RECORD_NUMBERS numbers for each.
+ * give &records[0].place, and TTCRX_RECORD_NUMBERS numbers for each.
  */
 typedef struct ttcrx_record {
     uint32_t place; /* of the clock in its block, from 0 */
@@ -251,7 +264,7 @@ typedef struct ttcrx_record {
 #define TTCRX_CODE_VERDICT 15
 #define TTCRX_CODE_CORRECTED 16 /* one wrong bit of the frame was corrected */
 #define TTCRX_CODE_TRIGGER 32   /* a trigger came on this clock */
-#define TTCRX_CODE_MISSED 64    /* while a sequence was running */
+#define TTCRX_CODE_MISSED 64    /* while a sequence had words left */
 
 /* The clocks that a block may have, and the numbers of a record: a buffer of both multiplied is always
    enough. */
@@ -355,9 +368,9 @@ uint8_t ttcrx_well_formed(ttcrx_receiver receiver);
 ttcrx_fresh_answer ttcrx_fresh(uint16_t id, uint8_t i2c);
 
 /*
- * One clock, with a bit of channel A (the trigger) and a bit of channel B (the data). Refusals, in
- * this order: 2: a state that is not well formed; 1: a bit over 1. The receiver is then the one given,
- * and all outputs are 0.
+ * One clock, with a bit of channel A (the trigger) and a bit of channel B (the data; idle is 1).
+ * Refusals, in this order: 2: a state that is not well formed; 1: a bit over 1. The receiver is then
+ * the one given, and all outputs are 0.
  */
 ttcrx_clock_answer ttcrx_clock(ttcrx_receiver receiver, uint8_t trigger, uint8_t data);
 
@@ -378,7 +391,9 @@ ttcrx_write_answer ttcrx_write(ttcrx_receiver receiver, uint8_t number, uint8_t 
 
 /*
  * Feeds a whole frame to the receiver: its bits in the order sent, one a clock, without triggers. The
- * answer is that of the last clock. Kind and number are as ttcrx_read_line answers them. Refusals, in
+ * answer is that of the last clock. Kind and number are as ttcrx_read_line answers them. It is meant
+ * for a receiver that waits (held.count is 0). One that holds bits takes these as more bits of that
+ * frame; a frame that so finishes on an earlier clock acts, and only the state shows it. Refusals, in
  * this order: 2: a state that is not well formed; 12: a kind over 1, or a number that is no frame of
  * this kind, as for the decoders. The receiver is then the one given, no clock is done, and all
  * outputs are 0.
@@ -425,9 +440,11 @@ ttcrx_report ttcrx_report_start(void);
 /*
  * Reports the lines that end in a piece of the input, each as ttclines prints it: the line's number,
  * then verdict, corrected flag and word as the clock of its last bit shows them, or '!' and the
- * refusal: 10, 11 or 12 of the line, or 2 for a frame on a receiver that is not well formed. A word
- * has 2 digits in a line of 4 characters and 8 in one of 11, also if the receiver given held bits of
- * another frame, so that the line's last bit finishes that one, or none (verdict 0).
+ * refusal: 10, 11 or 12 of the line, or 2 for a frame on a receiver that is not well formed. One
+ * space stands between them. The word is in capital hexadecimal digits, or '-' with verdicts 7 and 8;
+ * all else is decimal. It has 2 digits in a line of 4 characters and 8 in one of 11, also if the
+ * receiver given held bits of another frame, so that the line's last bit finishes that one, or none
+ * (verdict 0).
  *
  * It works until the piece is used up or fewer than TTCRX_LONGEST_LINE bytes of the buffer are free.
  * If input is left, room_wanted is TTCRX_LONGEST_LINE, else 0: write out the text, and give the rest
@@ -441,8 +458,9 @@ ttcrx_reported ttcrx_report_input(ttcrx_report report, const char *input, size_t
 /*
  * At the end of the input: reports a last line without line feed, if it has any character, as
  * ttcrx_report_input does; then writes the line "end", single errors, double errors, event count and
- * bunch count of the receiver; room_wanted is 0. With a buffer of under TTCRX_LONGEST_END bytes
- * nothing is written, the report stays, and room_wanted is TTCRX_LONGEST_END. Uses no input.
+ * bunch count of the receiver; room_wanted is 0. With a buffer of under TTCRX_LONGEST_END bytes,
+ * however short the text would be, nothing is written, the report stays, and room_wanted is
+ * TTCRX_LONGEST_END. Uses no input.
  */
 ttcrx_reported ttcrx_report_end(ttcrx_report report, char *buffer, size_t buffer_length);
 

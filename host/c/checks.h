@@ -1,12 +1,13 @@
 /*
- * What the checks of the C interface share: the count of them, and comparisons of states and of
- * what a clock shows.
+ * What the checks of the C interface share: the count of them, comparisons of states and of what a
+ * clock shows, and a buffer for text with guards.
  */
 #ifndef CHECKS_H
 #define CHECKS_H
 
 #include "ttcrx.h"
 
+#include <stddef.h>
 #include <stdint.h>
 #include <stdio.h>
 #include <string.h>
@@ -14,40 +15,74 @@
 static unsigned passed = 0;
 static unsigned failed = 0;
 
-static void check(int holds, const char *what)
+static void check(int holds, const char *what, const char *file, int line)
 {
     if (holds) {
         passed++;
     } else {
         failed++;
-        printf("c interface: failed: %s\n", what);
+        printf("c interface: failed: %s:%d: %s\n", file, line, what);
     }
 }
 
-static int core_is_fresh(ttcrx_core core, uint16_t id, uint8_t i2c)
+#define CHECK(holds) check((holds), #holds, __FILE__, __LINE__)
+
+/* Frames of document 01: data 35 for register 2 of ID 5, and RESET of ID 5. */
+#define WRITE_35 UINT64_C(0x100150235AD)
+#define WRITE_35_WORD 0x00150235
+#define RESET_5 UINT64_C(0x100150600F3)
+#define RESET_5_WORD 0x00150600
+
+/* The fresh state of ID 5 and I2C ID 5. It lies in memory that cannot be written. */
+static const ttcrx_receiver fresh_5 = {
+    {{5, 5}, {0, 0, 0, 0x93, 0x85, 0xA7}, {0, 0, 1}, {0, 0}, {0, 0}},
+    {0, 0},
+};
+
+/* A state that is not well formed. */
+static ttcrx_receiver ill_formed(void)
 {
-    return core.ids.id == id && core.ids.i2c == i2c && core.settings.fine1 == 0 &&
-           core.settings.fine2 == 0 && core.settings.coarse == 0 &&
-           core.settings.control == 0x93 && core.settings.config2 == 0x85 &&
-           core.settings.config3 == 0xA7 && core.errors.single_errors == 0 &&
-           core.errors.double_errors == 0 && core.errors.status5 == 1 &&
-           core.counters.bunch == 0 && core.counters.event == 0 && core.sequence.left == 0 &&
-           core.sequence.event == 0;
+    ttcrx_receiver receiver = fresh_5;
+    receiver.core.errors.status5 = 2;
+    return receiver;
 }
 
-static int held_is(ttcrx_held held, uint8_t count, uint64_t bits)
+static int same_settings(ttcrx_settings one, ttcrx_settings other)
 {
-    return held.count == count && held.bits == bits;
+    return one.fine1 == other.fine1 && one.fine2 == other.fine2 && one.coarse == other.coarse &&
+           one.control == other.control && one.config2 == other.config2 &&
+           one.config3 == other.config3;
 }
 
-static int counters_are(ttcrx_core core, uint16_t bunch, uint32_t event)
+static int same_core(ttcrx_core one, ttcrx_core other)
 {
-    return core.counters.bunch == bunch && core.counters.event == event;
+    return one.ids.id == other.ids.id && one.ids.i2c == other.ids.i2c &&
+           same_settings(one.settings, other.settings) &&
+           one.errors.single_errors == other.errors.single_errors &&
+           one.errors.double_errors == other.errors.double_errors &&
+           one.errors.status5 == other.errors.status5 &&
+           one.counters.bunch == other.counters.bunch &&
+           one.counters.event == other.counters.event &&
+           one.sequence.left == other.sequence.left &&
+           one.sequence.event == other.sequence.event;
 }
 
-static int bus_is(ttcrx_outputs outputs, uint8_t missed, uint8_t strobe, uint16_t number)
+static int same_state(ttcrx_receiver one, ttcrx_receiver other)
 {
-    return outputs.missed == missed && outputs.strobe == strobe && outputs.number == number;
+    return same_core(one.core, other.core) && one.held.count == other.held.count &&
+           one.held.bits == other.held.bits;
+}
+
+static int counters_are(ttcrx_receiver receiver, uint16_t bunch, uint32_t event)
+{
+    return receiver.core.counters.bunch == bunch && receiver.core.counters.event == event;
+}
+
+static int bus_is(ttcrx_outputs outputs, uint8_t trigger, uint8_t missed, uint8_t strobe,
+                  uint16_t number)
+{
+    return outputs.trigger == trigger && outputs.missed == missed && outputs.strobe == strobe &&
+           outputs.number == number;
 }
 
 static int fate_is(ttcrx_outputs outputs, uint8_t verdict, uint8_t corrected, uint32_t word)
@@ -55,25 +90,22 @@ static int fate_is(ttcrx_outputs outputs, uint8_t verdict, uint8_t corrected, ui
     return outputs.verdict == verdict && outputs.corrected == corrected && outputs.word == word;
 }
 
-/* A state of IDs 5 that is fresh but for its status bit 5. */
-static int fresh_but_status(ttcrx_receiver receiver, uint8_t status5)
+/* An accepted clock without trigger and sequence, with this on the frame. */
+static int received(ttcrx_clock_answer answer, uint8_t verdict, uint8_t corrected, uint32_t word)
 {
-    ttcrx_core core = receiver.core;
-    const int status_kept = core.errors.status5 == status5;
-    core.errors.status5 = 1;
-    return status_kept && core_is_fresh(core, 5, 5) && held_is(receiver.held, 0, 0);
+    return answer.refusal == TTCRX_ACCEPTED && fate_is(answer.outputs, verdict, corrected, word) &&
+           bus_is(answer.outputs, 0, 0, TTCRX_STROBE_NONE, 0);
 }
 
-/* A refused clock of a state that is fresh but for its status bit 5. */
-static int clock_refused(ttcrx_clock_answer answer, uint8_t refusal, uint8_t status5)
+/* A refused clock: the state as given, all outputs 0. */
+static int clock_refused(ttcrx_clock_answer answer, uint8_t refusal, ttcrx_receiver given)
 {
-    return answer.refusal == refusal && fresh_but_status(answer.receiver, status5) &&
-           answer.outputs.trigger == 0 && bus_is(answer.outputs, 0, 0, 0) &&
-           fate_is(answer.outputs, 0, 0, 0);
+    return answer.refusal == refusal && same_state(answer.receiver, given) &&
+           bus_is(answer.outputs, 0, 0, 0, 0) && fate_is(answer.outputs, 0, 0, 0);
 }
 
-/* The bits of a frame, without triggers. The outputs are those of the last bit. */
-static ttcrx_clock_answer send_frame(ttcrx_receiver receiver, unsigned length, uint64_t number)
+/* So many bits of a number, without triggers. The answer is that of the last bit. */
+static ttcrx_clock_answer send_bits(ttcrx_receiver receiver, unsigned length, uint64_t number)
 {
     ttcrx_clock_answer answer;
     memset(&answer, 0, sizeof answer);
@@ -83,6 +115,39 @@ static ttcrx_clock_answer send_frame(ttcrx_receiver receiver, unsigned length, u
         answer = ttcrx_clock(answer.receiver, 0, (uint8_t)(number >> length & 1));
     }
     return answer;
+}
+
+/* A buffer for text, between guards. Before it is lent, neighbours differ, and no byte is text. */
+#define GUARD 16
+#define ROOM 400
+static char guarded[GUARD + ROOM + GUARD];
+
+static char unwritten(size_t place)
+{
+    return (char)(0x80 + place % 127);
+}
+
+/* The buffer, before it is lent. */
+static char *text_buffer(void)
+{
+    size_t place;
+    for (place = 0; place < sizeof guarded; place++) {
+        guarded[place] = unwritten(place);
+    }
+    return guarded + GUARD;
+}
+
+/* The buffer begins with this text, and all other bytes, the guards too, are as they were. */
+static int only_written(const char *text, size_t length)
+{
+    size_t place;
+    for (place = 0; place < sizeof guarded; place++) {
+        const int in_text = place >= GUARD && place < GUARD + length;
+        if (guarded[place] != (in_text ? text[place - GUARD] : unwritten(place))) {
+            return 0;
+        }
+    }
+    return 1;
 }
 
 #endif

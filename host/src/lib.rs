@@ -1,20 +1,7 @@
-//! Compares the archive libttcrx.a with an independent model of document 01.
+//! The library libttcrx.a for Rust, and an independent model of document 01 that it is compared
+//! with.
 
-pub mod answer;
-pub mod blocks;
-pub mod calls;
-pub mod cases;
-pub mod compare;
-pub mod coverage;
-pub mod device;
-pub mod ffi;
-pub mod lent;
 pub mod model;
-pub mod random;
-pub mod receiver;
-pub mod reports;
-pub mod states;
-pub mod stored_lines;
-pub mod traffic;
-pub mod ttclines;
+pub mod sys;
+pub mod testing;
 pub mod ttcrx;

@@ -1,45 +1,31 @@
-//! Fine delays of the library against the model.
+//! Compares delay_byte and delay_setting with the model.
 
-use ttcrx_host::cases::Cases;
-use ttcrx_host::ffi::{Byte, Setting};
-use ttcrx_host::{answer, model, ttcrx};
-
-#[test]
-fn every_setting() {
-    let mut cases = Cases::of("settings");
-    for setting in 0..=255 {
-        let expected = answer::byte(model::delay_byte(setting));
-        cases.same(setting, ttcrx::delay_byte(setting), expected);
-    }
-    cases.at_least(256);
-}
+use ttcrx_host::sys::{REFUSED_DELAY_BYTE, REFUSED_SETTING};
+use ttcrx_host::testing::compare::Both;
+use ttcrx_host::testing::library::Library;
 
 #[test]
-fn every_byte() {
-    let mut cases = Cases::of("bytes");
-    for byte in 0..=255 {
-        let expected = answer::setting(model::delay_setting(byte));
-        cases.same(byte, ttcrx::delay_setting(byte), expected);
+fn every_setting_and_every_byte() {
+    let both = Both::of("settings and bytes");
+    for number in 0..=255 {
+        let refusals = [both.delay_byte(number).refusal, both.delay_setting(number).refusal];
+        let expected = match number <= 239 {
+            true => [0, 0],
+            false => [REFUSED_SETTING, REFUSED_DELAY_BYTE],
+        };
+        both.same(number, refusals, expected);
     }
-    cases.at_least(256);
+    both.at_least(3 * 256);
 }
 
 #[test]
 fn there_and_back() {
-    let mut cases = Cases::of("settings and bytes there and back");
+    let both = Both::of("settings and bytes there and back");
     for number in 0..=239 {
-        let byte = ttcrx::delay_byte(number).byte;
-        let back = Setting {
-            refusal: 0,
-            setting: number,
-        };
-        cases.same(number, ttcrx::delay_setting(byte), back);
-        let setting = ttcrx::delay_setting(number).setting;
-        let back = Byte {
-            refusal: 0,
-            byte: number,
-        };
-        cases.same(number, ttcrx::delay_byte(setting), back);
+        let byte = both.delay_byte(number).byte;
+        let setting = both.delay_setting(number).setting;
+        both.same(number, both.delay_setting(byte).setting, number);
+        both.same(number, both.delay_byte(setting).byte, number);
     }
-    cases.at_least(480);
+    both.at_least(6 * 240);
 }

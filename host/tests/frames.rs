@@ -1,129 +1,118 @@
-//! Encoders and decoders of the library against the model.
+//! Compares encode_short, encode_long, decode_short and decode_long with the model, and with what
+//! document 01 says of flipped bits.
 
-use ttcrx_host::cases::Cases;
-use ttcrx_host::ffi::{Decoded, Encoded, Fields};
-use ttcrx_host::random::Random;
-use ttcrx_host::{answer, model, ttcrx};
+use std::iter;
+use ttcrx_host::model::Kind;
+use ttcrx_host::sys::{Decoded, Fields};
+use ttcrx_host::sys::{REFUSED_FIELD, REFUSED_FRAME};
+use ttcrx_host::sys::{VERDICT_FIXED_BIT, VERDICT_STOP_BIT, VERDICT_UNCORRECTABLE};
+use ttcrx_host::testing::compare::Both;
+use ttcrx_host::testing::convert::Answer;
+use ttcrx_host::testing::example;
+use ttcrx_host::testing::frame::Frame;
+use ttcrx_host::testing::library::Library;
+use ttcrx_host::testing::random::Random;
+use ttcrx_host::testing::traffic::edge_numbers;
 
-const SHORT_PROTECTED: u32 = 13;
-const LONG_PROTECTED: u32 = 39;
-const STOP: u32 = 0;
 const FIXED: u32 = 1 << 16;
 
-fn same_encode_long(cases: &mut Cases, address: u16, e: u8, sub_address: u8, data: u8) -> Encoded {
-    let library = ttcrx::encode_long(address, e, sub_address, data);
-    let fields = model::Fields {
-        address,
-        e,
-        sub_address,
-        data,
+fn decode(both: &Both, frame: Frame) -> Decoded {
+    match frame.kind() {
+        Kind::Short => both.decode_short(frame.number),
+        Kind::Long => both.decode_long(frame.number),
+    }
+}
+
+/// What document 01 says of a frame with this word, without the model.
+fn said(kind: Kind, word: u32, corrected: u8) -> Decoded {
+    let [data, sub_address, _, _] = word.to_le_bytes();
+    let without_fixed_bit = Decoded { word, ..dropped(VERDICT_FIXED_BIT) };
+    let fields = match kind {
+        Kind::Short => Fields { data, ..Fields::default() },
+        Kind::Long if word & FIXED == 0 => return without_fixed_bit,
+        Kind::Long => {
+            Fields { address: (word >> 18) as u16, e: (word >> 17 & 1) as u8, sub_address, data }
+        }
     };
-    let expected = answer::encoded(model::encode_long(fields));
-    cases.same((address, e, sub_address, data), library, expected);
-    library
+    Decoded { corrected, word, fields, ..Decoded::default() }
 }
 
-fn same_decode_short(cases: &mut Cases, number: u64) -> Decoded {
-    let library = ttcrx::decode_short(number);
-    let expected = answer::decoded(model::decode_short(number));
-    cases.same(number, library, expected);
-    library
+/// A verdict without a word.
+fn dropped(verdict: u8) -> Decoded {
+    Decoded { verdict, ..Decoded::default() }
 }
 
-fn same_decode_long(cases: &mut Cases, number: u64) -> Decoded {
-    let library = ttcrx::decode_long(number);
-    let expected = answer::decoded(model::decode_long(number));
-    cases.same(number, library, expected);
-    library
+/// Words at the edges and so many random ones, with the fixed bit as it comes.
+fn words(seed: u64, count: u64) -> Vec<u32> {
+    let mut words = vec![0, u32::MAX];
+    words.extend((0..32).map(|place| 1 << place));
+    words.extend((0..32).map(|place| !(1u32 << place)));
+    for address in [0, 1, 5, 6, 8191, 8192, 16382, 16383] {
+        for e_and_fixed in [FIXED, 1 << 17 | FIXED] {
+            for sub_address in [0, 1, 2, 3, 4, 6, 7, 255] {
+                let upper = address << 18 | e_and_fixed | sub_address << 8;
+                words.extend([0, 1, 0x35, 0x80, 0xFF].map(|data| upper | data));
+            }
+        }
+    }
+    let mut random = Random::new(seed);
+    words.extend((0..count).map(|_| random.number() as u32));
+    words
 }
 
-/// What every broadcast must answer, written down without the model.
-fn broadcast(data: u8, corrected: u8) -> Decoded {
-    Decoded {
-        corrected,
-        word: data.into(),
-        fields: Fields {
-            data,
-            ..Fields::default()
-        },
-        ..Decoded::default()
+/// A frame of this word, clean and with every one and two flips of protected bits.
+fn flip(both: &Both, frame: Frame, word: u32) {
+    let kind = frame.kind();
+    let expect = |flips: u64, expected: Decoded| {
+        let answer = decode(both, frame.flipped(flips));
+        both.same((frame, flips), answer, expected);
+    };
+    expect(0, said(kind, word, 0));
+    for first in 1..=kind.protected_bits() {
+        expect(1 << first, said(kind, word, 1));
+        for second in first + 1..=kind.protected_bits() {
+            expect(1 << first | 1 << second, dropped(VERDICT_UNCORRECTABLE));
+        }
     }
 }
 
-/// What every long frame must answer, written down without the model.
-fn individual(word: u32, corrected: u8) -> Decoded {
-    if word & FIXED == 0 {
-        return Decoded {
-            verdict: 9,
-            word,
-            ..Decoded::default()
-        };
+/// Start, format and stop are not protected, also not beside a flip that could be corrected.
+fn flip_unprotected(both: &Both, frame: Frame) {
+    let places = [
+        (frame.length - 1, Decoded::refused(REFUSED_FRAME)),
+        (frame.length - 2, Decoded::refused(REFUSED_FRAME)),
+        (0, dropped(VERDICT_STOP_BIT)),
+    ];
+    let protected = (1..=frame.kind().protected_bits()).map(|place| 1 << place);
+    for other in iter::once(0).chain(protected) {
+        for (place, expected) in places {
+            let answer = decode(both, frame.flipped(other | 1 << place));
+            both.same((frame, other, place), answer, expected);
+        }
     }
-    Decoded {
-        corrected,
-        word,
-        fields: Fields {
-            address: (word >> 18) as u16,
-            e: (word >> 17 & 1) as u8,
-            sub_address: (word >> 8) as u8,
-            data: word as u8,
-        },
-        ..Decoded::default()
-    }
-}
-
-fn bare_verdict(verdict: u8) -> Decoded {
-    Decoded {
-        verdict,
-        ..Decoded::default()
-    }
-}
-
-fn refused(refusal: u8) -> Decoded {
-    Decoded {
-        refusal,
-        ..Decoded::default()
-    }
-}
-
-/// Powers of two and their neighbours, up to the last number.
-fn powers() -> impl Iterator<Item = u64> {
-    let near = |power: u64| [power - 1, power, power + 1];
-    (0..64)
-        .flat_map(move |place| near(1 << place))
-        .chain([u64::MAX - 1, u64::MAX])
-}
-
-#[test]
-fn encode_short() {
-    let mut cases = Cases::of("encode_short");
-    for data in 0..=255 {
-        let library = ttcrx::encode_short(data);
-        let expected = answer::encoded(Ok(model::encode_short(data)));
-        cases.same(data, library, expected);
-    }
-    cases.at_least(256);
 }
 
 #[test]
 fn encode_long_corners() {
-    let mut cases = Cases::of("encode_long corners");
+    let both = Both::of("encode_long corners");
     let bytes = [0, 1, 2, 3, 6, 7, 0x10, 0x35, 0x7F, 0x80, 0xAA, 0xFE, 0xFF];
-    for address in [0, 1, 5, 16382, 16383, 16384, 16385, 65535] {
-        for e in [0, 1, 2, 255] {
-            for sub_address in bytes {
-                for data in bytes {
-                    same_encode_long(&mut cases, address, e, sub_address, data);
-                }
+    for place in 0..13 * 13 {
+        let (sub_address, data) = (bytes[place / 13], bytes[place % 13]);
+        for address in [0, 1, 5, 16382, 16383, 16384, 16385, 65535] {
+            for e in [0, 1, 2, 255] {
+                let refusal = both.encode_long(address, e, sub_address, data).refusal;
+                let in_range = address <= 16383 && e <= 1;
+                let expected = if in_range { 0 } else { REFUSED_FIELD };
+                both.same((address, e), refusal, expected);
             }
         }
     }
-    cases.at_least(8 * 4 * 13 * 13);
+    both.at_least(2 * 8 * 4 * 13 * 13);
 }
 
 #[test]
 fn encode_long_random() {
-    let mut cases = Cases::of("encode_long random");
+    let both = Both::of("encode_long random");
     let mut random = Random::new(2);
     let mut refusals = 0;
     for _ in 0..500_000 {
@@ -131,233 +120,132 @@ fn encode_long_random() {
         let address = random.number() as u16 >> if narrow { 2 } else { 0 };
         let e = random.byte() & if random.once_in(6) { 255 } else { 1 };
         let (sub_address, data) = (random.byte(), random.byte());
-        let library = same_encode_long(&mut cases, address, e, sub_address, data);
-        refusals += u32::from(library.refusal != 0);
+        let answer = both.encode_long(address, e, sub_address, data);
+        refusals += u32::from(answer.refusal != 0);
     }
     assert!((100_000..400_000).contains(&refusals), "{refusals} refused");
-    cases.at_least(500_000);
+    both.at_least(500_000);
 }
 
 #[test]
-fn decode_short_all() {
-    let mut cases = Cases::of("decode_short of all 16 bit numbers");
-    for number in 0..=0xFFFF {
-        same_decode_short(&mut cases, number);
-    }
-    cases.at_least(65_536);
-}
-
-#[test]
-fn decode_short_far() {
-    let mut cases = Cases::of("decode_short of far numbers");
+fn decode_short_numbers() {
+    let both = Both::of("decode_short of all 16 bit numbers, and of far ones");
     let mut random = Random::new(3);
-    for number in powers() {
-        same_decode_short(&mut cases, number);
+    for number in (0..=0xFFFF).chain(edge_numbers()) {
+        both.decode_short(number);
     }
     for _ in 0..200_000 {
-        same_decode_short(&mut cases, random.number());
-        same_decode_short(&mut cases, random.any_length());
+        both.decode_short(random.number());
+        both.decode_short(random.any_length());
     }
-    cases.at_least(400_000 + 3 * 64);
+    both.at_least(65_536 + 8 * 64 + 400_000);
 }
 
+/// All broadcasts, as the library encodes them.
 #[test]
 fn broadcasts_flipped() {
-    let mut cases = Cases::of("broadcasts with one and two flips");
+    let both = Both::of("broadcasts with flips");
     for data in 0..=255 {
-        let frame = ttcrx::encode_short(data).number;
-        let clean = same_decode_short(&mut cases, frame);
-        cases.same(data, clean, broadcast(data, 0));
-        for first in 1..=SHORT_PROTECTED {
-            let one = frame ^ 1 << first;
-            let library = same_decode_short(&mut cases, one);
-            cases.same((data, first), library, broadcast(data, 1));
-            for second in first + 1..=SHORT_PROTECTED {
-                let library = same_decode_short(&mut cases, one ^ 1 << second);
-                cases.same((data, first, second), library, bare_verdict(8));
-            }
-        }
+        let frame = Frame::of(Kind::Short, both.encode_short(data).number);
+        flip(&both, frame, data.into());
+        flip_unprotected(&both, frame);
     }
-    cases.at_least(256 * 2 * (1 + 13 + 78));
+    both.at_least(256 * (1 + 2 * (1 + 13 + 78) + 2 * 14 * 3));
 }
 
-/// Start, format and stop are not protected, also not beside a flip that could be corrected.
-#[test]
-fn broadcasts_framed_wrong() {
-    let mut cases = Cases::of("broadcasts with start, format or stop flipped");
-    for data in 0..=255 {
-        let frame = ttcrx::encode_short(data).number;
-        let protected = (1..=SHORT_PROTECTED).map(|place| 1 << place);
-        for flip in std::iter::once(0).chain(protected) {
-            let places = [
-                (15, refused(12)),
-                (14, refused(12)),
-                (STOP, bare_verdict(7)),
-            ];
-            for (place, expected) in places {
-                let library = same_decode_short(&mut cases, frame ^ flip ^ 1 << place);
-                cases.same((data, flip, place), library, expected);
-            }
-        }
+/// Words at the edges and so many random ones, all with this fixed bit.
+fn flip_words(name: &'static str, seed: u64, count: u64, fixed: u32) {
+    let both = Both::of(name);
+    for word in words(seed, count) {
+        let word = word & !FIXED | fixed;
+        flip(&both, Frame::word(word), word);
     }
-    cases.at_least(256 * 2 * 14 * 3);
+    both.at_least(count * 2 * (1 + 39 + 741));
 }
-
-/// Words at the edges, with the fixed bit as it comes.
-fn corner_words() -> Vec<u32> {
-    let mut words = vec![0, u32::MAX];
-    words.extend((0..32).map(|place| 1 << place));
-    words.extend((0..32).map(|place| !(1u32 << place)));
-    for address in [0, 1, 5, 6, 8191, 8192, 16382, 16383] {
-        for e in [0, 1] {
-            for sub_address in [0, 1, 2, 3, 4, 6, 7, 255] {
-                for data in [0, 1, 0x35, 0x80, 0xFF] {
-                    words.push(address << 18 | e << 17 | FIXED | sub_address << 8 | data);
-                }
-            }
-        }
-    }
-    words
-}
-
-/// One word clean and with every one and two flips.
-fn flip_word(cases: &mut Cases, word: u32) {
-    let frame = model::encode_word(word);
-    let clean = same_decode_long(cases, frame);
-    cases.same(word, clean, individual(word, 0));
-    for first in 1..=LONG_PROTECTED {
-        let one = frame ^ 1 << first;
-        let library = same_decode_long(cases, one);
-        cases.same((word, first), library, individual(word, 1));
-        for second in first + 1..=LONG_PROTECTED {
-            let library = same_decode_long(cases, one ^ 1 << second);
-            cases.same((word, first, second), library, bare_verdict(8));
-        }
-    }
-}
-
-const CASES_OF_A_WORD: u64 = 2 * (1 + 39 + 741);
 
 #[test]
 fn long_words_flipped() {
-    let mut cases = Cases::of("long words, fixed bit 1, with one and two flips");
-    let mut random = Random::new(4);
-    for word in corner_words() {
-        flip_word(&mut cases, word | FIXED);
-    }
-    for _ in 0..20_000 {
-        flip_word(&mut cases, random.number() as u32 | FIXED);
-    }
-    cases.at_least(20_000 * CASES_OF_A_WORD);
+    let name = "long words, fixed bit 1, with one and two flips";
+    flip_words(name, 4, 20_000, FIXED);
 }
 
 #[test]
 fn long_words_without_fixed_bit_flipped() {
-    let mut cases = Cases::of("long words, fixed bit 0, with one and two flips");
-    let mut random = Random::new(5);
-    for word in corner_words() {
-        flip_word(&mut cases, word & !FIXED);
-    }
-    for _ in 0..3_000 {
-        flip_word(&mut cases, random.number() as u32 & !FIXED);
-    }
-    cases.at_least(3_000 * CASES_OF_A_WORD);
+    let name = "long words, fixed bit 0, with one and two flips";
+    flip_words(name, 5, 3_000, 0);
 }
 
-/// Start, format and stop are not protected, also not beside a flip that could be corrected.
 #[test]
-fn long_words_framed_wrong() {
-    let mut cases = Cases::of("long words with start, format or stop flipped");
-    let mut random = Random::new(6);
-    let mut words = corner_words();
-    words.extend((0..2_000).map(|_| random.number() as u32));
-    for word in words {
-        let frame = model::encode_word(word);
-        let protected = (1..=LONG_PROTECTED).map(|place| 1 << place);
-        for flip in std::iter::once(0).chain(protected) {
-            let places = [
-                (41, refused(12)),
-                (40, refused(12)),
-                (STOP, bare_verdict(7)),
-            ];
-            for (place, expected) in places {
-                let library = same_decode_long(&mut cases, frame ^ flip ^ 1 << place);
-                cases.same((word, flip, place), library, expected);
-            }
-        }
+fn long_words_with_unprotected_flips() {
+    let both = Both::of("long words with start, format or stop flipped");
+    for word in words(6, 2_000) {
+        flip_unprotected(&both, Frame::word(word));
     }
-    cases.at_least(2_000 * 2 * 40 * 3);
+    both.at_least(2_000 * 2 * 40 * 3);
 }
 
 /// Three flips may look like one and four like none, so only the model says what is answered.
 #[test]
 fn long_words_with_three_and_four_flips() {
-    let mut cases = Cases::of("long words with three and four flips");
+    let both = Both::of("long words with three and four flips");
     let mut random = Random::new(7);
     for _ in 0..300_000 {
-        let mut frame = model::encode_word(random.number() as u32 | FIXED);
-        let mut places: Vec<u32> = (1..=LONG_PROTECTED).collect();
+        let mut frame = Frame::word(random.number() as u32 | FIXED);
+        let mut places: Vec<u32> = (1..=39).collect();
         for count in 1..=4 {
             let place = places.swap_remove(random.below(places.len() as u64) as usize);
-            frame ^= 1 << place;
+            frame = frame.flipped(1 << place);
             if count >= 3 {
-                same_decode_long(&mut cases, frame);
+                decode(&both, frame);
             }
         }
     }
-    cases.at_least(600_000);
+    both.at_least(600_000);
 }
 
 #[test]
 fn decode_long_random() {
-    let mut cases = Cases::of("decode_long of random numbers");
+    let both = Both::of("decode_long of random numbers");
     let mut random = Random::new(8);
     let mut verdicts = [0; 10];
     for _ in 0..1_000_000 {
-        same_decode_long(&mut cases, random.number());
-        same_decode_long(&mut cases, random.any_length());
+        both.decode_long(random.number());
+        both.decode_long(random.any_length());
         let leading_right = 1 << 40 | random.below(1 << 40);
-        let library = same_decode_long(&mut cases, leading_right);
-        verdicts[usize::from(library.verdict)] += 1;
+        let verdict = both.decode_long(leading_right).verdict;
+        verdicts[usize::from(verdict)] += 1;
     }
     for verdict in [0, 7, 8, 9] {
         assert!(verdicts[verdict] > 10_000, "verdicts {verdicts:?}");
     }
-    cases.at_least(3_000_000);
+    both.at_least(3_000_000);
 }
 
 #[test]
 fn decode_long_edges() {
-    let mut cases = Cases::of("decode_long of edges");
-    let stray = same_decode_long(&mut cases, 0x1FF_FFFF_FFFF);
-    cases.same(0x1FF_FFFF_FFFF_u64, stray, bare_verdict(8));
-    for number in powers() {
-        same_decode_long(&mut cases, number);
-        same_decode_long(&mut cases, 1 << 40 | number);
-        same_decode_long(&mut cases, 1 << 40 ^ number);
+    let both = Both::of("decode_long of edges");
+    for frame in example::UNCORRECTABLE {
+        both.same(frame, decode(&both, frame), dropped(VERDICT_UNCORRECTABLE));
     }
-    cases.at_least(2 + 3 * 3 * 64);
+    for number in edge_numbers() {
+        both.decode_long(number);
+        both.decode_long(1 << 40 | number);
+        both.decode_long(1 << 40 ^ number);
+    }
+    both.at_least(2 * 2 + 3 * 8 * 64);
 }
 
+/// The library decodes what it has encoded.
 #[test]
 fn frames_are_read_back() {
-    let mut cases = Cases::of("library's own frames read back by the library");
+    let both = Both::of("library's own frames read back by the library");
     let mut random = Random::new(9);
-    for data in 0..=255 {
-        let frame = ttcrx::encode_short(data).number;
-        cases.same(data, ttcrx::decode_short(frame), broadcast(data, 0));
-    }
     for _ in 0..200_000 {
         let word = random.number() as u32 | FIXED;
-        let fields = individual(word, 0).fields;
-        let Fields {
-            address,
-            e,
-            sub_address,
-            data,
-        } = fields;
-        let frame = ttcrx::encode_long(address, e, sub_address, data).number;
-        cases.same(fields, ttcrx::decode_long(frame), individual(word, 0));
+        let expected = said(Kind::Long, word, 0);
+        let fields = expected.fields;
+        let frame = both.encode_long(fields.address, fields.e, fields.sub_address, fields.data);
+        both.same(word, both.decode_long(frame.number), expected);
     }
-    cases.at_least(200_256);
+    both.at_least(3 * 200_000);
 }

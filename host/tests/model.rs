@@ -1,48 +1,38 @@
-//! The model alone, held against the examples and rules of document 01.
+//! Compares no entry point: the model alone, with the rules of document 01. It is compiled here
+//! from its own folder, which shows that it depends on nothing else of the package.
 
-use ttcrx_host::model::{
-    decode_long, decode_short, delay_byte, delay_setting, encode_long, encode_short, encode_word,
-    read_line, write_line, Decoded, Fields, Kind, Refusal, COLUMNS,
+#[allow(dead_code, unused_imports)]
+#[path = "../src/model/mod.rs"]
+mod model;
+#[allow(dead_code)]
+#[path = "../src/testing/random.rs"]
+mod random;
+
+use model::{bits, decode_long, decode_short, delay_byte, delay_setting};
+use model::{encode_long, encode_short, encode_word, read_line, write_line};
+use model::{
+    Bus, Decoded, Fate, Fields, Kind, Outputs, Receiver, Refusal, State, Verdict, COLUMNS,
 };
-use ttcrx_host::random::Random;
 
 fn fields(address: u16, e: u8, sub_address: u8, data: u8) -> Fields {
-    Fields {
-        address,
-        e,
-        sub_address,
-        data,
-    }
+    Fields { address, e, sub_address, data }
 }
 
-fn broadcast(data: u8, corrected: bool) -> Result<Decoded, Refusal> {
-    individual(data.into(), corrected, fields(0, 0, 0, data))
+fn fresh() -> Receiver {
+    Receiver::fresh(5, 5).expect("IDs in range")
 }
 
-fn individual(word: u32, corrected: bool, fields: Fields) -> Result<Decoded, Refusal> {
-    Ok(Decoded {
-        verdict: 0,
-        corrected,
-        word,
-        fields,
-    })
+/// The bits of a whole frame without triggers. It finishes on the last clock and not before.
+fn send(receiver: &mut Receiver, kind: Kind, number: u64) -> Outputs {
+    let clocks = bits(number, kind.length()).map(|bit| receiver.clock(false, bit));
+    let mut shown: Vec<Outputs> = clocks.collect();
+    let last = shown.pop().expect("a frame has bits");
+    assert!(shown.iter().all(|clock| clock.fate == Fate::default()));
+    last
 }
 
-fn bare_verdict(verdict: u8) -> Result<Decoded, Refusal> {
-    Ok(Decoded {
-        verdict,
-        corrected: false,
-        word: 0,
-        fields: Fields::default(),
-    })
-}
-
-/// What document 01 says of each line's number: read, then decoded.
-fn said(line: &str) -> Result<Decoded, Refusal> {
-    match read_line(line.as_bytes())? {
-        (Kind::Short, number) => decode_short(number),
-        (Kind::Long, number) => decode_long(number),
-    }
+fn long_frame(sub_address: u8, data: u8) -> u64 {
+    encode_long(fields(5, 0, sub_address, data)).expect("in range")
 }
 
 #[test]
@@ -54,67 +44,10 @@ fn columns_have_three_ones_and_differ() {
     }
 }
 
-#[test]
-fn encodings_of_the_examples() {
-    let short = [
-        (0x00, 0x0001),
-        (0x01, 0x004F),
-        (0x02, 0x0097),
-        (0x03, 0x00D9),
-        (0xFF, 0x3FCD),
-    ];
-    for (data, number) in short {
-        assert_eq!(encode_short(data), number);
-    }
-    let long = [
-        (fields(0, 0, 2, 0x35), 0x100_0102_3543),
-        (fields(5, 0, 6, 0), 0x100_1506_00F3),
-        (fields(5, 1, 0x10, 0xAA), 0x100_1710_AAB7),
-    ];
-    for (fields, number) in long {
-        assert_eq!(encode_long(fields), Ok(number));
-    }
-    assert_eq!(encode_long(fields(16384, 0, 0, 0)), Err(Refusal::Field));
-    assert_eq!(encode_long(fields(0, 2, 0, 0)), Err(Refusal::Field));
-}
-
-#[test]
-fn decodings_of_the_examples() {
-    assert_eq!(decode_short(0x0095), broadcast(0x02, true));
-    assert_eq!(decode_short(0x0039), bare_verdict(8));
-    assert_eq!(decode_long(0x1FF_FFFF_FFFF), bare_verdict(8));
-}
-
-#[test]
-fn lines_of_the_program_example() {
-    let first = fields(5, 0, 2, 0x35);
-    let second = fields(6, 0, 2, 0x35);
-    assert_eq!(said("004F"), broadcast(0x01, false));
-    assert_eq!(said("2097"), broadcast(0x02, true));
-    assert_eq!(said("004E"), bare_verdict(7));
-    assert_eq!(said("304F"), bare_verdict(8));
-    assert_eq!(said("100150235AD"), individual(0x0015_0235, false, first));
-    assert_eq!(said("180150235AD"), individual(0x0015_0235, true, first));
-    assert_eq!(said("100190235B5"), individual(0x0019_0235, false, second));
-    assert_eq!(said("4001"), Err(Refusal::Leading));
-}
-
-#[test]
-fn settings_of_the_examples() {
-    for (setting, byte) in [(0, 14), (1, 29), (15, 15), (30, 0), (239, 239)] {
-        assert_eq!(delay_byte(setting), Ok(byte));
-        assert_eq!(delay_setting(byte), Ok(setting));
-    }
-    assert_eq!(delay_byte(240), Err(Refusal::Setting));
-    assert_eq!(delay_setting(240), Err(Refusal::Byte));
-}
-
 /// The frame, or one flip of it, that is equal to what its own data encode to.
-fn reencoded(number: u64, protected: u32, encode: impl Fn(u64) -> u64) -> Option<u64> {
-    let flips = (1..=protected).map(|place| number ^ 1 << place);
-    std::iter::once(number)
-        .chain(flips)
-        .find(|&frame| encode(frame) == frame)
+fn reencoded(number: u64, kind: Kind, encode: impl Fn(u64) -> u64) -> Option<u64> {
+    let flips = (1..=kind.protected_bits()).map(|place| number ^ 1 << place);
+    std::iter::once(number).chain(flips).find(|&frame| encode(frame) == frame)
 }
 
 /// The decoder's check numbers by bytes and the encoder's bits in the order sent are one code.
@@ -122,23 +55,26 @@ fn reencoded(number: u64, protected: u32, encode: impl Fn(u64) -> u64) -> Option
 fn short_search_agrees_with_the_encoder() {
     for number in (1..1 << 14).step_by(2) {
         let data = |frame: u64| (frame >> 6) as u8;
-        let expected = match reencoded(number, 13, |frame| encode_short(data(frame))) {
-            Some(frame) => broadcast(data(frame), frame != number),
-            None => bare_verdict(8),
+        let found = reencoded(number, Kind::Short, |frame| encode_short(data(frame)));
+        let expected = Decoded {
+            verdict: found.map_or(Verdict::Uncorrectable, |_| Verdict::None),
+            corrected: found.is_some_and(|frame| frame != number),
+            word: found.map_or(0, data).into(),
+            fields: fields(0, 0, 0, found.map_or(0, data)),
         };
-        assert_eq!(decode_short(number), expected, "{number:04X}");
+        assert_eq!(decode_short(number), Ok(expected), "{number:04X}");
     }
 }
 
 #[test]
 fn long_search_agrees_with_the_encoder() {
-    let mut random = Random::new(1);
+    let mut random = random::Random::new(1);
     for _ in 0..5_000 {
         let number = 1 << 40 | random.below(1 << 40) | 1;
         let word = |frame: u64| (frame >> 8) as u32;
-        let expected = reencoded(number, 39, |frame| encode_word(word(frame)));
+        let expected = reencoded(number, Kind::Long, |frame| encode_word(word(frame)));
         let decoded = decode_long(number).expect("a long frame");
-        let found = (decoded.verdict != 8).then_some(decoded.word);
+        let found = (decoded.verdict != Verdict::Uncorrectable).then_some(decoded.word);
         assert_eq!(found, expected.map(word), "{number:011X}");
     }
 }
@@ -146,7 +82,7 @@ fn long_search_agrees_with_the_encoder() {
 /// The search finds the nearest codeword and no other: no two are nearer than 4 flips.
 #[test]
 fn broadcasts_are_four_flips_apart() {
-    for first in 0..=255u8 {
+    for first in 0..=255 {
         for second in 0..first {
             let flips = encode_short(first) ^ encode_short(second);
             assert!(flips.count_ones() >= 4);
@@ -155,18 +91,27 @@ fn broadcasts_are_four_flips_apart() {
 }
 
 #[test]
-fn lines_are_refused_in_order() {
+fn refusals_come_in_order() {
+    assert_eq!(encode_long(fields(16384, 0, 0, 0)), Err(Refusal::Field));
+    assert_eq!(encode_long(fields(0, 2, 0, 0)), Err(Refusal::Field));
+    assert_eq!(delay_byte(240), Err(Refusal::Setting));
+    assert_eq!(delay_setting(240), Err(Refusal::DelayByte));
     assert_eq!(read_line(b"zzz"), Err(Refusal::LineLength));
     assert_eq!(read_line(b"zzzz"), Err(Refusal::Character));
     assert_eq!(read_line(b"+04F"), Err(Refusal::Character));
-    assert_eq!(read_line(b"20000000000"), Err(Refusal::Leading));
+    assert_eq!(read_line(b"20000000000"), Err(Refusal::Frame));
     assert_eq!(read_line(b"004f"), Ok((Kind::Short, 0x004F)));
     let mut buffer = *b"....";
-    let short = write_line(Kind::Short, 1, &mut buffer);
-    assert_eq!(short, Err(Refusal::Buffer));
-    let beyond = write_line(Kind::Short, 1 << 14, &mut buffer);
-    assert_eq!(beyond, Err(Refusal::Leading));
+    let mut written = |number| write_line(Kind::Short, number, &mut buffer);
+    assert_eq!(written(1), Err(Refusal::LineBuffer));
+    assert_eq!(written(1 << 14), Err(Refusal::Frame));
     assert_eq!(&buffer, b"....");
+    let refusal = |id, i2c| Receiver::fresh(id, i2c).err();
+    assert_eq!(refusal(0, 64), Some(Refusal::Id));
+    assert_eq!(refusal(16384, 0), Some(Refusal::Id));
+    assert_eq!(refusal(16383, 64), Some(Refusal::I2cId));
+    assert_eq!(refusal(16383, 63), None);
+    assert_eq!(refusal(1, 0), None);
 }
 
 #[test]
@@ -177,4 +122,82 @@ fn a_written_line_has_capitals_and_a_line_feed() {
     let long = write_line(Kind::Long, 0x100_1502_35AD, &mut buffer);
     assert_eq!(long, Ok(12));
     assert_eq!(&buffer, b"100150235AD\n..");
+}
+
+#[test]
+fn fresh_registers() {
+    let expected = State {
+        id: 5,
+        i2c: 5,
+        registers: [0, 0, 0, 0x93],
+        config: [0x85, 0xA7],
+        status5: 1,
+        ..State::default()
+    };
+    assert_eq!(fresh().state(), expected);
+}
+
+/// One stray 0 in idle: the 41 ones after it make an uncorrectable frame of it.
+#[test]
+fn a_stray_zero_in_idle() {
+    let mut receiver = fresh();
+    let shown = send(&mut receiver, Kind::Long, 0x1FF_FFFF_FFFF);
+    assert_eq!(shown.fate.verdict, Verdict::Uncorrectable);
+    let state = receiver.state();
+    assert_eq!((state.single_errors, state.double_errors), (0, 1));
+}
+
+/// Status bit 5 is cleared by verdict 7 and set by any other finished frame, 8 among them.
+#[test]
+fn status_bit_5() {
+    let mut receiver = fresh();
+    for (number, after) in [(0x004E, 0), (0x304F, 1), (0x004E, 0), (0x004F, 1)] {
+        send(&mut receiver, Kind::Short, number);
+        assert_eq!(receiver.state().status5, after);
+    }
+}
+
+/// The bunch number that a broadcast clears is shown, and the clear wins over the step up.
+#[test]
+fn clears_win_in_the_state() {
+    let mut receiver = fresh();
+    receiver.send(encode_short(0x03) >> 1, 15);
+    let shown = receiver.clock(true, true);
+    assert_eq!(shown.bus, Bus::Bunch(15));
+    assert_eq!(shown.fate.verdict, Verdict::Broadcast);
+    assert_eq!((receiver.bunch(), receiver.event()), (0, 0));
+    assert_eq!(receiver.clock(false, true).bus, Bus::EventLow(0));
+}
+
+/// RESET: the state is the fresh one, also in a running sequence and by a corrected frame.
+#[test]
+fn reset_is_fresh() {
+    let mut receiver = fresh();
+    for (sub_address, data) in [(0, 1), (1, 2), (2, 3), (3, 0x42)] {
+        let shown = send(&mut receiver, Kind::Long, long_frame(sub_address, data));
+        assert_eq!(shown.fate.verdict, Verdict::Stored);
+    }
+    send(&mut receiver, Kind::Short, 0x2097);
+    let reset = long_frame(6, 0) ^ 1 << 20;
+    receiver.send(reset >> 2, 40);
+    assert_eq!(receiver.clock(true, true).bus, Bus::EventLow(0));
+    let shown = receiver.clock(true, true);
+    assert_eq!((shown.bus, shown.missed), (Bus::EventHigh(0), true));
+    let fate = shown.fate;
+    assert_eq!((fate.verdict, fate.corrected), (Verdict::Reset, true));
+    assert_eq!(receiver.state(), fresh().state());
+}
+
+/// A write to the control register does not alter a running sequence.
+#[test]
+fn a_control_write_in_a_running_sequence() {
+    let mut receiver = fresh();
+    let number = long_frame(3, 0);
+    receiver.send(number >> 2, 40);
+    receiver.clock(true, number >> 1 & 1 == 1);
+    let shown = receiver.clock(false, true);
+    assert_eq!(shown.bus, Bus::EventLow(0));
+    assert_eq!(shown.fate.verdict, Verdict::Stored);
+    assert_eq!(receiver.clock(true, true).bus, Bus::EventHigh(0));
+    assert_eq!(receiver.clock(true, true).bus, Bus::None);
 }

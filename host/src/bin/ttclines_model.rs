@@ -3,7 +3,7 @@
 
 use std::io::{self, BufReader, BufWriter};
 use std::process::ExitCode;
-use ttcrx_host::ttclines;
+use ttcrx_host::model::report;
 
 /// Few system calls, and both buffers stay in the processor's cache.
 const BUFFER: usize = 1 << 16;
@@ -12,7 +12,7 @@ const BUFFER: usize = 1 << 16;
 fn main() -> ExitCode {
     let mut input = BufReader::with_capacity(BUFFER, io::stdin().lock());
     let mut output = BufWriter::with_capacity(BUFFER, io::stdout().lock());
-    match ttclines::run(&mut input, &mut output) {
+    match report::run(&mut input, &mut output) {
         Ok(()) => ExitCode::SUCCESS,
         Err(error) => {
             eprintln!("ttclines_model: {error}");

@@ -1,28 +1,27 @@
 //! "It must equal the clocks done singly": blocks of the library beside its own single clocks, and
 //! beside the same clocks cut into other blocks.
 
-use ttcrx_host::blocks::model::{CLOCKS, NUMBERS};
-use ttcrx_host::blocks::ttcrx::{filled, run_block};
-use ttcrx_host::cases::Cases;
-use ttcrx_host::ffi::{Outputs, Receiver};
-use ttcrx_host::random::Random;
-use ttcrx_host::traffic::{Traffic, LIVELY};
-use ttcrx_host::{states, ttcrx};
+use ttcrx_host::sys::{Outputs, Receiver, Record, BLOCK_CLOCKS, RECORD_NUMBERS};
+use ttcrx_host::testing::compare::Cases;
+use ttcrx_host::testing::random::Random;
+use ttcrx_host::testing::states;
+use ttcrx_host::testing::traffic::{Traffic, LIVELY};
+use ttcrx_host::ttcrx;
 
 /// What clocks leave and write: the state and the records.
-type Done = (Receiver, Vec<u32>);
+type Done = (Receiver, Vec<Record>);
 
-/// The pieces as blocks, one behind the other; their places are counted through.
+/// The pieces as blocks, one after the other; their places are counted through.
 #[track_caller]
 fn in_pieces(mut state: Receiver, pieces: &[&[u8]], buffer: &mut [u32]) -> Done {
     let mut all = Vec::new();
     let mut clocks = 0;
     for piece in pieces {
-        let answer = run_block(&mut state, piece, buffer);
+        let answer = ttcrx::run_block(&mut state, piece, buffer);
         assert_eq!(answer.refusal, 0);
-        for record in filled(buffer, answer.records).chunks_exact(NUMBERS) {
-            all.push(clocks + record[0]);
-            all.extend(&record[1..]);
+        for mut record in ttcrx::records(buffer, answer.records) {
+            record.place += clocks;
+            all.push(record);
         }
         clocks += piece.len() as u32;
     }
@@ -30,14 +29,10 @@ fn in_pieces(mut state: Receiver, pieces: &[&[u8]], buffer: &mut [u32]) -> Done 
 }
 
 fn code(outputs: &Outputs) -> u32 {
-    let [verdict, corrected, trigger, missed] = [
-        outputs.verdict,
-        outputs.corrected,
-        outputs.trigger,
-        outputs.missed,
-    ]
-    .map(u32::from);
-    verdict + 16 * corrected + 32 * trigger + 64 * missed
+    u32::from(outputs.verdict)
+        + 16 * u32::from(outputs.corrected)
+        + 32 * u32::from(outputs.trigger)
+        + 64 * u32::from(outputs.missed)
 }
 
 /// The clocks done singly by the library itself.
@@ -48,8 +43,13 @@ fn singly(mut state: Receiver, block: &[u8]) -> Done {
         let answer = ttcrx::clock(state, bits & 1, bits >> 1);
         let shown = &answer.outputs;
         if shown.trigger == 1 || shown.verdict != 0 {
-            all.extend([place, before.bunch.into(), before.event]);
-            all.extend([code(shown), shown.word]);
+            all.push(Record {
+                place,
+                bunch: before.bunch.into(),
+                event: before.event,
+                code: code(shown),
+                word: shown.word,
+            });
         }
         state = answer.receiver;
     }
@@ -68,7 +68,7 @@ impl Blocks {
         Blocks {
             random: Random::new(seed),
             traffic: Traffic::new(seed),
-            buffer: vec![0; NUMBERS * CLOCKS],
+            buffer: vec![0; RECORD_NUMBERS * BLOCK_CLOCKS],
         }
     }
 
@@ -80,7 +80,7 @@ impl Blocks {
 }
 
 /// The block cut in two at every place, with the empty pieces at its ends.
-fn every_cut_of(cases: &mut Cases, blocks: &mut Blocks, length: usize) {
+fn every_cut_of(cases: &Cases, blocks: &mut Blocks, length: usize) {
     let (state, block) = blocks.next(length);
     let whole = in_pieces(state, &[&block], &mut blocks.buffer);
     cases.same(state, &whole, &singly(state, &block));
@@ -93,37 +93,37 @@ fn every_cut_of(cases: &mut Cases, blocks: &mut Blocks, length: usize) {
 
 #[test]
 fn every_cut() {
-    let mut cases = Cases::of("blocks cut in two everywhere");
+    let cases = Cases::of("blocks cut in two everywhere");
     let mut blocks = Blocks::of(420);
     for _ in 0..100 {
         let length = blocks.random.below(400) as usize;
-        every_cut_of(&mut cases, &mut blocks, length);
+        every_cut_of(&cases, &mut blocks, length);
     }
     cases.at_least(10_000);
 }
 
 #[test]
 fn every_cut_of_a_full_block() {
-    let mut cases = Cases::of("a block of 4,096 clocks cut in two everywhere");
-    every_cut_of(&mut cases, &mut Blocks::of(421), CLOCKS);
+    let cases = Cases::of("a block of 4,096 clocks cut in two everywhere");
+    every_cut_of(&cases, &mut Blocks::of(421), BLOCK_CLOCKS);
     cases.at_least(4_098);
 }
 
 /// Whole, in many pieces, in blocks of one clock and singly.
 #[test]
 fn many_pieces() {
-    let mut cases = Cases::of("blocks of 4,096 clocks in many pieces");
+    let cases = Cases::of("blocks of 4,096 clocks in many pieces");
     let mut blocks = Blocks::of(422);
     for _ in 0..500 {
-        let (state, block) = blocks.next(CLOCKS);
+        let (state, block) = blocks.next(BLOCK_CLOCKS);
         let whole = in_pieces(state, &[&block], &mut blocks.buffer);
         let most = blocks.random.pick(&[1, 2, 20, 300, 2_000]);
         let pieces = blocks.random.pieces(&block, most);
-        let done = in_pieces(state, &pieces, &mut blocks.buffer);
-        cases.same(state, &done, &whole);
         let clocks: Vec<&[u8]> = block.chunks(1).collect();
-        let done = in_pieces(state, &clocks, &mut blocks.buffer);
-        cases.same(state, &done, &whole);
+        for cut in [pieces, clocks] {
+            let done = in_pieces(state, &cut, &mut blocks.buffer);
+            cases.same(state, &done, &whole);
+        }
         cases.same(state, &singly(state, &block), &whole);
     }
     cases.at_least(3 * 500);

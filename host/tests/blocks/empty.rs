@@ -1,77 +1,52 @@
 //! Empty blocks and empty buffers, as slices and as null pointers.
 
-use crate::driver::refused;
-use ttcrx_host::blocks::ffi::BlockOutcome;
-use ttcrx_host::blocks::model::CLOCKS;
-use ttcrx_host::blocks::ttcrx as library;
-use ttcrx_host::cases::Cases;
-use ttcrx_host::ffi::Receiver;
-use ttcrx_host::random::Random;
-use ttcrx_host::{states, ttcrx};
+use ttcrx_host::sys::*;
+use ttcrx_host::testing::compare::Cases;
+use ttcrx_host::testing::convert::Answer;
+use ttcrx_host::testing::random::Random;
+use ttcrx_host::testing::{null, states};
+use ttcrx_host::ttcrx::{run_block, well_formed};
 
-/// Calls, each with the receiver as it was given, that answer so and leave it.
-#[track_caller]
-fn leave(
-    cases: &mut Cases,
-    state: Receiver,
-    calls: &mut [&mut dyn FnMut(&mut Receiver) -> BlockOutcome],
-    expected: BlockOutcome,
-) {
-    for call in calls {
+/// How a call is refused at a well-formed state, and the call. A buffer is at hand.
+type Call = (u8, fn(&mut Receiver, &mut [u32]) -> BlockOutcome);
+
+/// No clock is done; or there is no room for any: 16, after 15 and before 1.
+const CALLS: [Call; 8] = [
+    (ACCEPTED, |lent, _| run_block(lent, &[], &mut [])),
+    (ACCEPTED, |lent, buffer| run_block(lent, &[], buffer)),
+    (ACCEPTED, null::run_no_block),
+    (ACCEPTED, |lent, _| null::run_block_to_null(lent, &[])),
+    (ACCEPTED, |lent, _| null::run_no_block_to_null(lent)),
+    (REFUSED_RECORD_BUFFER, |lent, _| null::run_block_to_null(lent, &[3])),
+    (REFUSED_RECORD_BUFFER, |lent, _| null::run_block_to_null(lent, &[255, 3])),
+    (REFUSED_BLOCK_LENGTH, |lent, _| null::run_block_to_null(lent, &[1; BLOCK_CLOCKS + 1])),
+];
+
+/// Every call leaves the state and the buffer. Refusal 2 comes first.
+fn calls(cases: &Cases, state: Receiver, good: bool) {
+    let mut buffer = [0xA5A5_A5A5; 7];
+    for (refusal, call) in CALLS {
+        let refusal = if good { refusal } else { REFUSED_STATE };
         let mut after = state;
-        cases.same(state, call(&mut after), expected);
+        let answer = call(&mut after, &mut buffer);
+        cases.same(state, answer, BlockOutcome::refused(refusal));
         cases.same(state, after, state);
     }
-}
-
-/// No clock is done: the answer is 0, or 2 for a receiver that is not well formed.
-fn empty_blocks(cases: &mut Cases, state: Receiver, expected: BlockOutcome) {
-    let (mut first, mut second) = ([0xA5A5_A5A5; 7], [0xA5A5_A5A5; 7]);
-    leave(
-        cases,
-        state,
-        &mut [
-            &mut |lent| library::run_block(lent, &[], &mut []),
-            &mut |lent| library::run_block(lent, &[], &mut first),
-            &mut |lent| library::run_null_block(lent, &mut second),
-            &mut |lent| library::run_block_to_null(lent, &[]),
-            &mut library::run_null_block_to_null,
-        ],
-        expected,
-    );
-    cases.same(state, [first, second], [[0xA5A5_A5A5; 7]; 2]);
-}
-
-/// No room for any clock: 16, after 2 and 15 and before 1.
-fn no_buffers(cases: &mut Cases, state: Receiver, good: bool) {
-    let refusal = |refusal| refused(if good { refusal } else { 2 });
-    leave(
-        cases,
-        state,
-        &mut [
-            &mut |lent| library::run_block_to_null(lent, &[3]),
-            &mut |lent| library::run_block_to_null(lent, &[255, 3]),
-        ],
-        refusal(16),
-    );
-    let long = &mut |lent: &mut Receiver| library::run_block_to_null(lent, &[1; CLOCKS + 1]);
-    leave(cases, state, &mut [long], refusal(15));
+    cases.same(state, buffer, [0xA5A5_A5A5; 7]);
 }
 
 #[test]
 fn slices_and_null() {
-    let mut cases = Cases::of("empty blocks and empty buffers");
+    let cases = Cases::of("empty blocks and empty buffers");
     let mut random = Random::new(450);
     let mut seen = [0u32; 2];
     for _ in 0..20_000 {
         let garbage = states::garbage(&mut random);
         let good = states::well_formed(&mut random);
         for state in [good, states::mixed(&mut random, good, &garbage), garbage] {
-            let good = ttcrx::well_formed(state);
+            let good = well_formed(state) == 1;
             seen[usize::from(good)] += 1;
-            let expected = refused(if good == 1 { 0 } else { 2 });
-            empty_blocks(&mut cases, state, expected);
-            no_buffers(&mut cases, state, good == 1);
+            calls(&cases, state, good);
         }
     }
     assert!(seen.iter().all(|&count| count > 10_000), "{seen:?}");

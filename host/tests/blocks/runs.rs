@@ -1,17 +1,20 @@
-//! Receivers that live long: block behind block, with register writes between them.
+//! Receivers that live long: block after block, with register writes between them.
 
 use crate::driver::Driver;
 use crate::tallies::{Blocks, Records};
-use ttcrx_host::blocks::byte;
-use ttcrx_host::blocks::model::{CLOCKS, NUMBERS};
-use ttcrx_host::coverage::{assert_seen, Tally};
-use ttcrx_host::ffi::{Counters, Errors, Receiver};
-use ttcrx_host::traffic::{Habit, Traffic, LIVELY, QUIET, RARE};
-use ttcrx_host::{compare, ttcrx};
+use ttcrx_host::model::block::byte;
+use ttcrx_host::sys::{Counters, Errors, Receiver, BLOCK_CLOCKS, RECORD_NUMBERS};
+use ttcrx_host::testing::coverage::{assert_seen, Tally};
+use ttcrx_host::testing::library::Library;
+use ttcrx_host::testing::traffic::{Habit, Traffic, LIVELY, QUIET, RARE};
+use ttcrx_host::ttcrx;
 
 /// The control register, and those of the counters.
 const CONTROL: u8 = 3;
 const COUNTERS: [u8; 8] = [8, 9, 10, 24, 25, 26, 27, 28];
+
+/// Room for the records of a full block.
+const FULL: usize = RECORD_NUMBERS * BLOCK_CLOCKS;
 
 struct Runs {
     driver: Driver,
@@ -37,23 +40,19 @@ impl Runs {
         }
     }
 
-    /// Often as long as a block may be; also none and a single clock.
-    fn length(&mut self) -> usize {
+    /// Often as long as a block may be; also none and a single clock. As much room as is asked for,
+    /// a few numbers more, or that of a full block and more.
+    fn length_and_room(&mut self) -> (usize, usize) {
         let random = &mut self.driver.random;
-        match random.below(8) {
+        let length = match random.below(8) {
             0 => 0,
             1 => 1,
-            2 | 3 => random.below(CLOCKS as u64 + 1) as usize,
-            _ => CLOCKS,
-        }
-    }
-
-    /// As much room as is asked for, a few numbers more, or that of a full block and more.
-    fn room(&mut self, length: usize) -> usize {
-        let random = &mut self.driver.random;
-        let exact = NUMBERS * length;
+            2 | 3 => random.below(BLOCK_CLOCKS as u64 + 1) as usize,
+            _ => BLOCK_CLOCKS,
+        };
+        let exact = RECORD_NUMBERS * length;
         let few = exact + random.below(12) as usize;
-        random.pick(&[exact, few, NUMBERS * CLOCKS, NUMBERS * CLOCKS + 7])
+        (length, random.pick(&[exact, few, FULL, FULL + 7]))
     }
 
     /// Traffic; seldom idle throughout, or with a trigger on every clock.
@@ -68,12 +67,10 @@ impl Runs {
     }
 
     fn block(&mut self) {
-        let length = self.length();
-        let room = self.room(length);
+        let (length, room) = self.length_and_room();
         let bytes = self.bytes(length);
         let before = self.driver.state;
-        let (answer, records) = self.driver.block(&bytes, room);
-        self.driver.cases.same(length, answer.refusal, 0);
+        let records = self.driver.expect(0, &bytes, room);
         let states = (&before, &self.driver.state);
         self.blocks.seen((length, room), states, &records);
         self.records.seen(&records);
@@ -81,9 +78,9 @@ impl Runs {
     }
 
     fn write(&mut self, number: u8, value: u8) {
-        let Driver { cases, state, .. } = &mut self.driver;
-        let answer = compare::write(cases, *state, number, value);
-        cases.same((number, value), answer.refusal, 0);
+        let Driver { both, state, .. } = &mut self.driver;
+        let answer = both.write(*state, number, value);
+        both.same((number, value), answer.refusal, 0);
         *state = answer.receiver;
     }
 
@@ -112,49 +109,42 @@ impl Runs {
             self.writes();
         }
     }
-
-    #[track_caller]
-    fn assert_complete(self, clocks: u64, cases: u64) {
-        self.traffic.assert_complete();
-        self.records.assert_complete();
-        self.blocks.assert_complete();
-        assert_seen(&[&self.modes, &self.cleared]);
-        println!("{} clocks", self.clocks);
-        assert!(self.clocks >= clocks, "too few clocks");
-        self.driver.cases.at_least(cases);
-    }
 }
 
 /// A fresh receiver but for its counters, which are near their tops.
 fn near_the_tops(id: u16) -> Receiver {
     let mut state = ttcrx::fresh(id, 5).receiver;
-    state.core.counters = Counters {
-        bunch: 4000,
-        event: (1 << 24) - 20,
-    };
-    state.core.errors = Errors {
-        single_errors: 65_500,
-        double_errors: 240,
-        status5: 0,
-    };
+    state.core.counters = Counters { bunch: 4000, event: (1 << 24) - 20 };
+    state.core.errors = Errors { single_errors: 65_500, double_errors: 240, status5: 0 };
     state
+}
+
+/// The clocks on each receiver.
+const CLOCKS: u64 = 13_000_000;
+
+/// A fresh receiver with many clears, then one near its tops with fewer.
+#[track_caller]
+fn lively_and(mut runs: Runs, fresh: Receiver, id: u16, habit: Habit) {
+    runs.run(fresh, LIVELY, CLOCKS);
+    runs.run(near_the_tops(id), habit, CLOCKS);
+    runs.traffic.assert_complete();
+    runs.records.assert_complete();
+    runs.blocks.assert_complete();
+    assert_seen(&[&runs.modes, &runs.cleared]);
+    println!("{} clocks", runs.clocks);
+    assert!(runs.clocks >= 2 * CLOCKS, "too few clocks");
+    runs.driver.both.at_least(50_000);
 }
 
 #[test]
 fn lively_and_rare() {
-    let mut runs = Runs::of("blocks of a receiver with many clears, then few", 400);
-    runs.run(ttcrx::fresh(5, 5).receiver, LIVELY, 13_000_000);
-    runs.run(near_the_tops(16383), RARE, 13_000_000);
-    runs.assert_complete(26_000_000, 50_000);
+    let runs = Runs::of("blocks of a receiver with many clears, then few", 400);
+    lively_and(runs, ttcrx::fresh(5, 5).receiver, 16383, RARE);
 }
 
 #[test]
 fn lively_and_quiet() {
-    let mut runs = Runs::of(
-        "blocks of a receiver with many clears, then hardly any",
-        401,
-    );
-    runs.run(ttcrx::fresh(1, 63).receiver, LIVELY, 13_000_000);
-    runs.run(near_the_tops(8191), QUIET, 13_000_000);
-    runs.assert_complete(26_000_000, 50_000);
+    let name = "blocks of a receiver with many clears, then hardly any";
+    let runs = Runs::of(name, 401);
+    lively_and(runs, ttcrx::fresh(1, 63).receiver, 8191, QUIET);
 }

@@ -2,24 +2,23 @@
 
 use crate::driver::{noise, Driver};
 use crate::tallies::Records;
-use ttcrx_host::blocks::model::NUMBERS;
-use ttcrx_host::states;
-use ttcrx_host::traffic::{Traffic, LIVELY};
+use ttcrx_host::model::Kind;
+use ttcrx_host::sys::RECORD_NUMBERS;
+use ttcrx_host::testing::states;
+use ttcrx_host::testing::traffic::{Traffic, LIVELY};
 
 /// A block on the driver's state, with a little more room than it asks for, or none more.
 #[track_caller]
-fn run(driver: &mut Driver, block: &[u8], records: &mut Records) {
-    let room = NUMBERS * block.len() + driver.random.pick(&[0, 0, 1, 5, 11]);
-    let (answer, written) = driver.block(block, room);
-    driver.cases.same(block, answer.refusal, 0);
-    records.seen(&written);
+fn run(driver: &mut Driver, block: &[u8], seen: &mut Records) {
+    let room = RECORD_NUMBERS * block.len() + driver.random.pick(&[0, 0, 1, 5, 11]);
+    seen.seen(&driver.expect(0, block, room));
 }
 
 #[test]
 fn random_states() {
     let mut driver = Driver::of("short blocks from random well-formed states", 410);
     let mut traffic = Traffic::new(411);
-    let mut records = Records::default();
+    let mut seen = Records::default();
     for _ in 0..150_000 {
         driver.state = states::well_formed(&mut driver.random);
         let length = driver.random.below(100) as usize;
@@ -30,43 +29,41 @@ fn random_states() {
                 traffic.block(length)
             }
         };
-        run(&mut driver, &block, &mut records);
+        run(&mut driver, &block, &mut seen);
     }
     traffic.assert_complete();
-    records.assert_complete();
-    driver.cases.at_least(7 * 150_000);
+    seen.assert_complete();
+    driver.both.at_least(7 * 150_000);
 }
 
-/// Every number of held bits of both frames, with any bits behind them.
+/// Every number of held bits of both frames, with any bits after them.
 #[test]
 fn every_number_of_held_bits() {
     let mut driver = Driver::of("short blocks with every number of held bits", 412);
-    let mut records = Records::default();
-    for (whole, format) in [(16, 0), (42, 1u64)] {
-        for count in 1..whole {
-            for _ in 0..400 {
-                driver.state = states::holding(&mut driver.random, count, format);
-                let length = driver.random.below(50) as usize;
-                let block = noise(&mut driver.random, length);
-                run(&mut driver, &block, &mut records);
-            }
+    let mut seen = Records::default();
+    for kind in Kind::BOTH {
+        for count in (1..kind.length()).flat_map(|count| [count; 400]) {
+            driver.state = states::holding(&mut driver.random, count, kind.number().into());
+            let length = driver.random.below(50) as usize;
+            let block = noise(&mut driver.random, length);
+            run(&mut driver, &block, &mut seen);
         }
     }
-    driver.cases.at_least(7 * 56 * 400);
+    driver.both.at_least(7 * 56 * 400);
 }
 
 /// Blocks of one clock: every byte that is right.
 #[test]
 fn single_clocks() {
     let mut driver = Driver::of("blocks of one clock", 413);
-    let mut records = Records::default();
+    let mut seen = Records::default();
     for _ in 0..150_000 {
         let start = states::well_formed(&mut driver.random);
         for bits in 0..=3 {
             driver.state = start;
-            run(&mut driver, &[bits], &mut records);
+            run(&mut driver, &[bits], &mut seen);
         }
     }
-    records.assert_complete();
-    driver.cases.at_least(7 * 4 * 150_000);
+    seen.assert_complete();
+    driver.both.at_least(7 * 4 * 150_000);
 }

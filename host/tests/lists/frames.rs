@@ -4,12 +4,13 @@
 use crate::runner::{Run, Runner};
 use crate::sent::Sent;
 use crate::tallies::Tallies;
-use ttcrx_host::calls::{carrying, Call, Mix};
-use ttcrx_host::device::Device;
-use ttcrx_host::ffi::{Held, Outputs, Receiver};
-use ttcrx_host::random::Random;
-use ttcrx_host::states;
-use ttcrx_host::traffic::{protected, Frame};
+use ttcrx_host::sys::{Held, Outputs, Receiver, VERDICT_RESET, VERDICT_UNCORRECTABLE};
+use ttcrx_host::testing::calls::{carrying, Call, Mix};
+use ttcrx_host::testing::frame::Frame;
+use ttcrx_host::testing::library::Library;
+use ttcrx_host::testing::random::Random;
+use ttcrx_host::testing::states;
+use ttcrx_host::testing::traffic::protected;
 
 /// A list, here with channel B at 1 on every clock, and the frame that it is to carry.
 #[derive(Debug)]
@@ -33,8 +34,8 @@ impl List {
     }
 }
 
-struct Frames<'a, D> {
-    runner: Runner<'a, D>,
+struct Frames<'a> {
+    runner: Runner<'a>,
     tallies: Tallies,
 }
 
@@ -57,10 +58,9 @@ fn clean(list: &List, (outputs, state): End) -> End {
 fn one_flip((mut outputs, mut state): End) -> End {
     outputs.corrected = 1;
     let single = &mut state.core.errors.single_errors;
-    *single = match (outputs.verdict, *single) {
-        (3, _) => 0,
-        (_, 65535) => 65535,
-        (_, number) => number + 1,
+    *single = match outputs.verdict {
+        VERDICT_RESET => 0,
+        _ => single.saturating_add(1),
     };
     (outputs, state)
 }
@@ -68,22 +68,16 @@ fn one_flip((mut outputs, mut state): End) -> End {
 /// Verdict 8 and else the outputs of the idle list; its state, "but with the double error counter
 /// one higher unless full and status bit 5 at 1".
 fn two_flips((mut outputs, mut state): End) -> End {
-    outputs.verdict = 8;
+    outputs.verdict = VERDICT_UNCORRECTABLE;
     let errors = &mut state.core.errors;
-    errors.double_errors = match errors.double_errors {
-        255 => 255,
-        number => number + 1,
-    };
+    errors.double_errors = errors.double_errors.saturating_add(1);
     errors.status5 = 1;
     (outputs, state)
 }
 
-impl<'a, D: Device> Frames<'a, D> {
-    fn new(device: &'a mut D, name: &'static str) -> Frames<'a, D> {
-        Frames {
-            runner: Runner::new(device, name),
-            tallies: Tallies::new(),
-        }
+impl<'a> Frames<'a> {
+    fn new(library: &'a dyn Library, name: &'static str) -> Frames<'a> {
+        Frames { runner: Runner::new(library, name), tallies: Tallies::default() }
     }
 
     /// The list idle, clean, and with each of these flips.
@@ -106,11 +100,9 @@ impl<'a, D: Device> Frames<'a, D> {
     /// The list with the bits of the frame, these flipped: "each clock before the last has verdict
     /// 0, and all outputs, bytes read and refusals before the last clock equal the idle list's".
     fn carries(&mut self, list: &List, flipped: u64, idle: &Run, expected: End) {
-        let mut frame = list.sent.frame();
-        frame.number ^= flipped;
-        let calls = carrying(&list.idle, frame);
+        let calls = carrying(&list.idle, list.sent.frame().flipped(flipped));
         let run = self.runner.run(list.start, &calls);
-        let cases = &mut self.runner.cases;
+        let cases = &self.runner.cases;
         let input = (list, flipped);
         let finished = run.before().iter().find(|shown| shown.outputs.verdict != 0);
         cases.same(input, finished, None);
@@ -121,8 +113,8 @@ impl<'a, D: Device> Frames<'a, D> {
 }
 
 /// Each list with two single and two double flips.
-pub fn check<D: Device>(device: &mut D, seed: u64, lists: u64) {
-    let mut frames = Frames::new(device, "lists that carry a frame");
+pub fn check(library: &dyn Library, seed: u64, lists: u64) {
+    let mut frames = Frames::new(library, "lists that carry a frame");
     let mut random = Random::new(seed);
     for _ in 0..lists {
         let list = List::any(&mut random);
@@ -137,17 +129,18 @@ pub fn check<D: Device>(device: &mut D, seed: u64, lists: u64) {
 
 /// Every flip of one and of two protected bits.
 fn all_flips(frame: Frame) -> Vec<u64> {
-    let places = 1..u32::from(frame.length) - 2;
-    let mut flips: Vec<u64> = places.clone().map(|place| 1 << place).collect();
+    let places = 1..=frame.kind().protected_bits();
+    let mut flips = Vec::new();
     for first in places {
+        flips.push(1 << first);
         flips.extend((1..first).map(|second| 1 << first | 1 << second));
     }
     flips
 }
 
 /// Some lists with every flip of one and of two protected bits.
-pub fn check_all_flips<D: Device>(device: &mut D, seed: u64) {
-    let mut frames = Frames::new(device, "lists that carry a frame, with all flips");
+pub fn check_all_flips(library: &dyn Library, seed: u64) {
+    let mut frames = Frames::new(library, "lists that carry a frame, with all flips");
     let mut random = Random::new(seed);
     for _ in 0..100 {
         let list = List::any(&mut random);

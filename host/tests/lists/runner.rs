@@ -1,14 +1,14 @@
 //! Makes lists of calls.
 
-use ttcrx_host::calls::Call;
-use ttcrx_host::cases::Cases;
-use ttcrx_host::coverage::Accesses;
-use ttcrx_host::device::{call, Device, Shown};
-use ttcrx_host::ffi::{Outputs, Receiver};
+use ttcrx_host::sys::{Outputs, Receiver};
+use ttcrx_host::testing::calls::{call, Call, Shown};
+use ttcrx_host::testing::compare::Cases;
+use ttcrx_host::testing::coverage::Accesses;
+use ttcrx_host::testing::library::Library;
 
-/// A device and what was compared and seen of it.
-pub struct Runner<'a, D> {
-    pub device: &'a mut D,
+/// A library and what was compared and seen of it.
+pub struct Runner<'a> {
+    pub library: &'a dyn Library,
     pub cases: Cases,
     pub accesses: Accesses,
 }
@@ -38,27 +38,19 @@ impl Run {
     }
 }
 
-impl<'a, D: Device> Runner<'a, D> {
-    pub fn new(device: &'a mut D, name: &'static str) -> Runner<'a, D> {
-        Runner {
-            device,
-            cases: Cases::of(name),
-            accesses: Accesses::default(),
-        }
+impl<'a> Runner<'a> {
+    pub fn new(library: &'a dyn Library, name: &'static str) -> Runner<'a> {
+        Runner { library, cases: Cases::of(name), accesses: Accesses::default() }
     }
 
     /// "The first gets the starting state, each later one the state as the call before returned or
     /// left it."
     pub fn run(&mut self, start: Receiver, calls: &[Call]) -> Run {
-        let mut run = Run {
-            start,
-            shown: Vec::with_capacity(calls.len()),
-            before_last: start,
-            end: start,
-        };
+        let mut run =
+            Run { start, shown: Vec::with_capacity(calls.len()), before_last: start, end: start };
         for &each in calls {
             run.before_last = run.end;
-            let shown = call(self.device, &mut run.end, each);
+            let shown = call(self.library, &mut run.end, each);
             self.refuses(each, shown, &run);
             self.accesses.call(&run.before_last, each, &run.end);
             run.shown.push(shown);
@@ -68,17 +60,14 @@ impl<'a, D: Device> Runner<'a, D> {
 
     /// "Each call ... refuses, exactly as ... the table of refusals say": a refused call shows
     /// nothing else and leaves the state.
-    fn refuses(&mut self, call: Call, shown: Shown, run: &Run) {
+    fn refuses(&self, call: Call, shown: Shown, run: &Run) {
         let refusal = call.refusal();
         let input = (call, run.before_last);
         self.cases.same(input, shown.refusal, refusal);
         if refusal != 0 {
-            let nothing = Shown {
-                refusal,
-                ..Shown::default()
-            };
-            self.cases
-                .same(input, (shown, run.end), (nothing, run.before_last));
+            let nothing = Shown { refusal, ..Shown::default() };
+            let left = (nothing, run.before_last);
+            self.cases.same(input, (shown, run.end), left);
         }
     }
 }

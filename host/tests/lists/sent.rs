@@ -1,10 +1,11 @@
 //! Properly encoded frames, and what document 01's table says of their fields.
 
-use ttcrx_host::answer;
-use ttcrx_host::ffi::{Counters, Receiver, Settings};
-use ttcrx_host::model::{encode_long, encode_short, Fields};
-use ttcrx_host::random::Random;
-use ttcrx_host::traffic::{self, Frame, LIVELY};
+use ttcrx_host::model::Fields;
+use ttcrx_host::sys::*;
+use ttcrx_host::testing::frame::Frame;
+use ttcrx_host::testing::library::{Library, Model};
+use ttcrx_host::testing::random::Random;
+use ttcrx_host::testing::traffic::{self, LIVELY};
 
 /// A properly encoded frame: any fields in range, the fixed bit 1 if long.
 #[derive(Clone, Copy, Debug)]
@@ -24,14 +25,8 @@ impl Sent {
 
     pub fn frame(self) -> Frame {
         match self {
-            Sent::Short(data) => Frame {
-                number: encode_short(data),
-                length: 16,
-            },
-            Sent::Long(fields) => Frame {
-                number: encode_long(fields).expect("in range"),
-                length: 42,
-            },
+            Sent::Short(data) => Frame::short(data),
+            Sent::Long(fields) => Frame::long(fields),
         }
     }
 
@@ -51,16 +46,16 @@ impl Sent {
     /// "Fate of a finished frame": the verdict of the first row that holds for these fields.
     pub fn row(self, id: u16) -> u8 {
         let Sent::Long(fields) = self else {
-            return 1;
+            return VERDICT_BROADCAST;
         };
         let rows = [
-            (5, ![0, id].contains(&fields.address)),
-            (4, fields.e == 1),
-            (2, [0, 1, 2, 3].contains(&fields.sub_address)),
-            (3, fields.sub_address == 6),
+            (VERDICT_OTHER_ADDRESS, ![0, id].contains(&fields.address)),
+            (VERDICT_OUTSIDE, fields.e == 1),
+            (VERDICT_STORED, [0, 1, 2, 3].contains(&fields.sub_address)),
+            (VERDICT_RESET, fields.sub_address == 6),
         ];
         let first = rows.iter().find(|(_, holds)| *holds);
-        first.map_or(6, |(verdict, _)| *verdict)
+        first.map_or(VERDICT_OTHER_SUB_ADDRESS, |(verdict, _)| *verdict)
     }
 
     /// The effect of that row, and status bit 5 at 1; "the rest of ... state is the idle list's".
@@ -69,9 +64,9 @@ impl Sent {
         let mut state = idle;
         state.core.errors.status5 = 1;
         match (self.row(ids.id), self) {
-            (1, Sent::Short(data)) => clear(&mut state.core.counters, data),
-            (2, Sent::Long(fields)) => store(&mut state.core.settings, fields),
-            (3, _) => state = answer::fresh(ids.id, ids.i2c).receiver,
+            (VERDICT_BROADCAST, Sent::Short(data)) => clear(&mut state.core.counters, data),
+            (VERDICT_STORED, Sent::Long(fields)) => store(&mut state.core.settings, fields),
+            (VERDICT_RESET, _) => state = Model.fresh(ids.id, ids.i2c).receiver,
             _ => {}
         }
         state

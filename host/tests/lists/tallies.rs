@@ -2,51 +2,33 @@
 
 use crate::runner::Run;
 use crate::sent::Sent;
-use ttcrx_host::coverage::{assert_seen, Tally};
-use ttcrx_host::ffi::Errors;
 use ttcrx_host::model::Fields;
+use ttcrx_host::sys::{Errors, VERDICT_STORED};
+use ttcrx_host::tallies;
 
-pub struct Tallies {
-    rows: Tally<4>,
-    broadcasts: Tally<4>,
-    fields: Tally<4>,
-    registers: Tally<3>,
-    status5: Tally<2>,
-    single: Tally<2>,
-    double: Tally<2>,
-    short_flips: Tally<2>,
-    long_flips: Tally<2>,
+const ROW: (&str, u8, u8) = ("row", 1, 6);
+const FLIPS: (&str, u8, u8) = ("flips", 0, 2);
+const TRIGGER: (&str, u8, u8) = ("last trigger", 0, 1);
+const LEFT: (&str, u8, u8) = ("words left", 0, 2);
+const ADDRESS: (&str, u8, u8) = ("address (0, own, foreign)", 0, 2);
+const SUB_ADDRESS: (&str, u8, u8) = ("sub-address (0 to 3, 6, other)", 0, 2);
+const OF_TWO: (&str, u8, u8) = ("one of two flips", 0, 1);
+
+tallies! {
+    pub struct Tallies {
+        rows: [ROW, FLIPS, TRIGGER, LEFT],
+        broadcasts: [("broadcast bits", 0, 3), FLIPS, TRIGGER, LEFT],
+        fields: [ADDRESS, ("E", 0, 1), SUB_ADDRESS, FLIPS],
+        registers: [("register", 0, 3), ("own address", 0, 1), FLIPS],
+        status5: [("status bit 5 of the idle list", 0, 1), FLIPS],
+        single: [ROW, ("single errors at one flip (0, more, 65534, full)", 0, 3)],
+        double: [ROW, ("double errors at two flips (0, more, 254, full)", 0, 3)],
+        short_flips: [OF_TWO, ("place in a short frame", 1, 13)],
+        long_flips: [OF_TWO, ("place in a long frame", 1, 39)],
+    }
 }
 
 impl Tallies {
-    pub fn new() -> Tallies {
-        let row = ("row", 1, 6);
-        let flips = ("flips", 0, 2);
-        let trigger = ("last trigger", 0, 1);
-        let left = ("words left", 0, 2);
-        let single = ("single errors at one flip (0, more, 65534, full)", 0, 3);
-        let double = ("double errors at two flips (0, more, 254, full)", 0, 3);
-        Tallies {
-            rows: Tally::of([row, flips, trigger, left]),
-            broadcasts: Tally::of([("broadcast bits", 0, 3), flips, trigger, left]),
-            fields: Tally::of([
-                ("address (0, own, foreign)", 0, 2),
-                ("E", 0, 1),
-                ("sub-address (0 to 3, 6, other)", 0, 2),
-                flips,
-            ]),
-            registers: Tally::of([("register", 0, 3), ("own address", 0, 1), flips]),
-            status5: Tally::of([("status bit 5 of the idle list", 0, 1), flips]),
-            single: Tally::of([row, single]),
-            double: Tally::of([row, double]),
-            short_flips: Tally::of([
-                ("one of two flips", 0, 1),
-                ("place in a short frame", 1, 13),
-            ]),
-            long_flips: Tally::of([("one of two flips", 0, 1), ("place in a long frame", 1, 39)]),
-        }
-    }
-
     /// A frame with these bits flipped, and the idle list's run.
     pub fn frame(&mut self, sent: Sent, flipped: u64, idle: &Run) {
         let flips = flipped.count_ones() as u8;
@@ -76,7 +58,7 @@ impl Tallies {
             _ => 2,
         };
         self.fields.seen([address, fields.e, sub_address, flips]);
-        if row == 2 {
+        if row == VERDICT_STORED {
             self.registers.seen([fields.sub_address, address, flips]);
         }
     }
@@ -88,11 +70,10 @@ impl Tallies {
             _ if number == 0 => 0,
             _ => 1,
         };
+        let (single, double) = (errors.single_errors, errors.double_errors);
         match flips {
-            1 => self.single.seen([row, place(errors.single_errors, 65535)]),
-            2 => self
-                .double
-                .seen([row, place(errors.double_errors.into(), 255)]),
+            1 => self.single.seen([row, place(single, 65535)]),
+            2 => self.double.seen([row, place(double.into(), 255)]),
             _ => {}
         }
     }
@@ -105,21 +86,5 @@ impl Tallies {
                 Sent::Long(_) => self.long_flips.seen([two, place]),
             }
         }
-    }
-
-    /// Fails and names what was not tried.
-    #[track_caller]
-    pub fn assert_complete(&self) {
-        assert_seen(&[
-            &self.rows,
-            &self.broadcasts,
-            &self.fields,
-            &self.registers,
-            &self.status5,
-            &self.single,
-            &self.double,
-            &self.short_flips,
-            &self.long_flips,
-        ]);
     }
 }

@@ -1,52 +1,41 @@
 //! "If channel B was 1 on its last 41 clocks, the receiver then waits for a start bit."
 
 use crate::runner::{Run, Runner};
-use ttcrx_host::calls::{Call, Mix};
-use ttcrx_host::coverage::{assert_seen, kind, Tally, KINDS};
-use ttcrx_host::device::{call, Device};
-use ttcrx_host::ffi::Held;
-use ttcrx_host::random::Random;
-use ttcrx_host::states;
-use ttcrx_host::traffic::{Traffic, LIVELY};
+use ttcrx_host::sys::Held;
+use ttcrx_host::tallies;
+use ttcrx_host::testing::calls::{call, Call, Mix};
+use ttcrx_host::testing::coverage::{kind, KINDS};
+use ttcrx_host::testing::library::Library;
+use ttcrx_host::testing::random::Random;
+use ttcrx_host::testing::traffic::{Traffic, LIVELY};
+use ttcrx_host::testing::{states, verdict};
 
 const ONES: usize = 41;
 
-/// What the lists did to channel B before they ended.
-struct EndTallies {
-    starts: Tally<2>,
-    verdicts: Tally<1>,
-    finishes: Tally<1>,
-    zeros: Tally<1>,
-    ends: Tally<1>,
+tallies! {
+    /// What the lists did to channel B before they ended.
+    struct Ends {
+        starts: [("held bits at first", 0, 41), ("more than 41 clocks", 0, 1)],
+        verdicts: [verdict::ANY],
+        finishes: [("of the last 41 clocks a frame ended on (0: on none)", 0, 41)],
+        zeros: [("refused clocks with a 0 among the last 41", 0, 3)],
+        ends: [KINDS],
+    }
 }
 
-impl EndTallies {
-    fn new() -> EndTallies {
-        let finishes = "of the last 41 clocks a frame ended on (0: on none)";
-        EndTallies {
-            starts: Tally::of([("held bits at first", 0, 41), ("more than 41 clocks", 0, 1)]),
-            verdicts: Tally::of([("verdict", 0, 9)]),
-            finishes: Tally::of([(finishes, 0, 41)]),
-            zeros: Tally::of([("refused clocks with a 0 among the last 41", 0, 3)]),
-            ends: Tally::of([KINDS]),
-        }
-    }
-
+impl Ends {
     fn list(&mut self, calls: &[Call], run: &Run) {
-        for verdict in run.verdicts() {
-            self.verdicts.seen([verdict]);
-        }
-        let clocks: Vec<u8> = calls
-            .iter()
-            .zip(run.verdicts())
+        let answered = calls.iter().zip(run.verdicts());
+        let clocks: Vec<u8> = answered
+            .inspect(|(_, verdict)| self.verdicts.seen([*verdict]))
             .filter_map(|(call, verdict)| call.is_clock().then_some(verdict))
             .collect();
         let (front, last) = clocks.split_at(clocks.len() - ONES);
         let more = !front.is_empty();
         self.starts.seen([run.start.held.count, more.into()]);
-        let finish = last.iter().position(|verdict| *verdict != 0);
-        self.finishes
-            .seen([finish.map_or(0, |place| place as u8 + 1)]);
+        let finish = last.iter().position(|&verdict| verdict != 0);
+        let finish = finish.map_or(0, |place| place as u8 + 1);
+        self.finishes.seen([finish]);
         self.zeros.seen([refused_zeros(calls)]);
         self.ends.seen([kind(*calls.last().expect("a call"))]);
     }
@@ -86,25 +75,23 @@ fn list(random: &mut Random, traffic: &mut Traffic) -> Vec<Call> {
 /// On how many clocks at the end of a list channel B was 1. "A refused call is no clock."
 fn ones_at_the_end(calls: &[Call]) -> usize {
     let clocks = calls.iter().rev().filter(|call| call.is_clock());
-    clocks
-        .take_while(|call| matches!(call, Call::Clock { data: 1, .. }))
-        .count()
+    clocks.take_while(|call| matches!(call, Call::Clock { data: 1, .. })).count()
 }
 
 /// "A receiver waits when it holds no frame bit and a 0 on the next clock would be a start bit."
-fn waits<D: Device>(runner: &mut Runner<D>, calls: &[Call], run: &Run, trigger: u8) {
+fn waits(runner: &Runner, calls: &[Call], run: &Run, trigger: u8) {
     let input = (run.start, calls);
     let mut state = run.end;
     runner.cases.same(input, state.held, Held::default());
-    let shown = call(runner.device, &mut state, Call::Clock { trigger, data: 0 });
+    let shown = call(runner.library, &mut state, Call::Clock { trigger, data: 0 });
     let start_bit = Held { count: 1, bits: 0 };
     let answer = (shown.refusal, shown.outputs.verdict, state.held);
     runner.cases.same(input, answer, (0, 0, start_bit));
 }
 
-pub fn check<D: Device>(device: &mut D, seed: u64, lists: u64) {
-    let mut runner = Runner::new(device, "lists that end on 41 ones");
-    let mut tallies = EndTallies::new();
+pub fn check(library: &dyn Library, seed: u64, lists: u64) {
+    let mut runner = Runner::new(library, "lists that end on 41 ones");
+    let mut tallies = Ends::default();
     let mut random = Random::new(seed);
     let mut traffic = Traffic::new(seed);
     for _ in 0..lists {
@@ -113,16 +100,10 @@ pub fn check<D: Device>(device: &mut D, seed: u64, lists: u64) {
         let calls = list(&mut random, &mut traffic);
         assert!(ones_at_the_end(&calls) >= ONES);
         let run = runner.run(start, &calls);
-        waits(&mut runner, &calls, &run, random.byte() >> 7);
+        waits(&runner, &calls, &run, random.byte() >> 7);
         tallies.list(&calls, &run);
     }
-    assert_seen(&[
-        &tallies.starts,
-        &tallies.verdicts,
-        &tallies.finishes,
-        &tallies.zeros,
-        &tallies.ends,
-    ]);
+    tallies.assert_complete();
     runner.accesses.assert_complete();
     runner.cases.at_least(lists * 100);
 }

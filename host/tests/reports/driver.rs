@@ -1,90 +1,73 @@
-//! Calls of the library's reports, each compared with the model's answer.
+//! Reports that are fed, each call compared with the model's.
 
-use ttcrx_host::cases::Cases;
-use ttcrx_host::lent::Lent;
-use ttcrx_host::random::Random;
-use ttcrx_host::reports::ffi::{Report, Reported};
-use ttcrx_host::reports::{answer, ttcrx};
+use ttcrx_host::sys::{Report, Reported, LONGEST_LINE};
+use ttcrx_host::testing::compare::Both;
+use ttcrx_host::testing::lent::Lent;
+use ttcrx_host::testing::library::Library;
+use ttcrx_host::testing::random::Random;
 
-/// The room that a report of a line asks for.
-pub const LINE: usize = 34;
-
-/// Random bytes to lend so many of.
-fn filled(random: &mut Random, length: usize) -> Lent<u8> {
-    Lent::filled(length, || random.byte())
-}
-
-/// One function of the library beside that of the model: answers and whole buffers are equal, and
-/// behind what was written the bytes are as they were.
-#[track_caller]
-fn same(
-    cases: &mut Cases,
-    mut buffer: Lent<u8>,
-    report: Report,
-    library: impl Fn(&mut [u8]) -> Reported,
-    model: impl Fn(&mut [u8]) -> Reported,
-) -> (Reported, Vec<u8>) {
-    let before = buffer.clone();
-    let mut expected_buffer = buffer.clone();
-    let answer = library(buffer.part());
-    let expected = model(expected_buffer.part());
-    cases.same(report, answer, expected);
-    cases.same(report, buffer.whole(), expected_buffer.whole());
-    let end = answer.written;
-    cases.same(report, buffer.behind(end), before.behind(end));
-    cases.same(report, buffer.before(), before.before());
-    (answer, buffer.part()[..answer.written].to_vec())
+/// The answer of a call that did nothing, and wants so much room.
+pub fn untouched(report: Report, room_wanted: usize) -> Reported {
+    Reported { report, room_wanted, ..Reported::default() }
 }
 
 /// A report that is fed, and all that it has written.
 pub struct Driver<'a> {
-    pub cases: &'a mut Cases,
-    pub random: Random,
+    both: &'a Both<'static>,
+    random: Random,
     pub report: Report,
-    pub output: Vec<u8>,
+    output: Vec<u8>,
 }
 
 impl<'a> Driver<'a> {
-    pub fn of(cases: &'a mut Cases, seed: u64, report: Report) -> Driver<'a> {
-        Driver {
-            cases,
-            random: Random::new(seed),
-            report,
-            output: Vec::new(),
-        }
+    pub fn of(both: &'a Both<'static>, seed: u64, report: Report) -> Driver<'a> {
+        Driver { both, random: Random::new(seed), report, output: Vec::new() }
     }
 
-    /// One call of `ttcrx_report_input`. Gives how many bytes it has used.
+    /// All that was written.
+    pub fn text(&self) -> String {
+        String::from_utf8_lossy(&self.output).into_owned()
+    }
+
+    /// A call with a buffer of so many random bytes. Those before it and those after what was
+    /// written stay.
     #[track_caller]
-    pub fn input(&mut self, input: &[u8], length: usize) -> usize {
-        let buffer = filled(&mut self.random, length);
-        let report = self.report;
-        let (answer, text) = same(
-            self.cases,
-            buffer,
-            report,
-            |lent| ttcrx::report_input(report, input, lent),
-            |lent| answer::input(report, input, lent),
-        );
-        let left = length - answer.written;
-        let all_used = answer.used == input.len();
-        self.cases.same(report, all_used || left < LINE, true);
-        if length < LINE {
-            let untouched = (answer.report, answer.used, answer.written);
-            self.cases.same(report, untouched, (report, 0, 0));
-        }
-        self.output.extend(text);
+    fn call(&mut self, length: usize, call: impl FnOnce(&mut [u8]) -> Reported) -> Reported {
+        let before = Lent::filled(length, || self.random.byte());
+        let mut buffer = before.clone();
+        let answer = call(buffer.part());
+        let (cases, end) = (&self.both.cases, answer.written);
+        cases.same_buffers(self.report, buffer.before(), before.before());
+        cases.same_buffers(self.report, buffer.after(end), before.after(end));
+        self.output.extend(&buffer.part()[..end]);
         self.report = answer.report;
-        answer.used
+        answer
+    }
+
+    /// One call of `ttcrx_report_input`. It ends where the piece or the room does, and wants room
+    /// if input is left. A buffer that is too small for a line leaves the report.
+    #[track_caller]
+    pub fn input(&mut self, input: &[u8], length: usize) -> Reported {
+        let (both, report) = (self.both, self.report);
+        let answer = self.call(length, |buffer| both.report_input(report, input, buffer));
+        let left = answer.used < input.len();
+        let free = length - answer.written;
+        both.same(report, left && free >= LONGEST_LINE, false);
+        let wanted = if left { LONGEST_LINE } else { 0 };
+        both.same(report, answer.room_wanted, wanted);
+        if length < LONGEST_LINE {
+            both.same(report, answer, untouched(report, wanted));
+        }
+        answer
     }
 
     /// A whole piece, by as many calls as buffers of this length need; it holds a line.
     #[track_caller]
     pub fn piece(&mut self, piece: &[u8], length: usize) {
-        assert!(length >= LINE, "no input would be used");
+        assert!(length >= LONGEST_LINE, "no input would be used");
         let mut rest = piece;
         while !rest.is_empty() {
-            let used = self.input(rest, length);
+            let used = self.input(rest, length).used;
             assert!(used > 0, "a call used nothing");
             rest = &rest[used..];
         }
@@ -93,17 +76,7 @@ impl<'a> Driver<'a> {
     /// One call of `ttcrx_report_end`.
     #[track_caller]
     pub fn end(&mut self, length: usize) -> Reported {
-        let buffer = filled(&mut self.random, length);
-        let report = self.report;
-        let (answer, text) = same(
-            self.cases,
-            buffer,
-            report,
-            |lent| ttcrx::report_end(report, lent),
-            |lent| answer::end(report, lent),
-        );
-        self.output.extend(text);
-        self.report = answer.report;
-        answer
+        let (both, report) = (self.both, self.report);
+        self.call(length, |buffer| both.report_end(report, buffer))
     }
 }

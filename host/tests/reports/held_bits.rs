@@ -1,16 +1,18 @@
-//! Reports of well-formed receivers that hold bits: a line's bits come behind them. The frame that
+//! Reports of well-formed receivers that hold bits: a line's bits come after them. The frame that
 //! the last of them finishes, if any, need not be of the line's kind; its word has the digits of
 //! the line's kind all the same.
 
 use crate::driver::Driver;
 use crate::inputs::{input, within_a_frame};
-use ttcrx_host::cases::Cases;
-use ttcrx_host::coverage::{assert_seen, Tally};
-use ttcrx_host::ffi::Held;
-use ttcrx_host::random::Random;
-use ttcrx_host::reports::ffi::Report;
-use ttcrx_host::reports::ttcrx::report_start;
-use ttcrx_host::stored_lines::{any_frame, EVERY_KIND};
+use ttcrx_host::model::Kind;
+use ttcrx_host::sys::{Held, Report, LONGEST_END, LONGEST_LINE};
+use ttcrx_host::testing::compare::Both;
+use ttcrx_host::testing::coverage::{assert_seen, Tally};
+use ttcrx_host::testing::frame::Frame;
+use ttcrx_host::testing::lines::{any_frame, EVERY_KIND};
+use ttcrx_host::testing::random::Random;
+use ttcrx_host::testing::verdict;
+use ttcrx_host::ttcrx::report_start;
 
 /// The report's start with these bits held.
 fn holding(held: Held) -> Report {
@@ -19,32 +21,31 @@ fn holding(held: Held) -> Report {
     report
 }
 
-/// What a report says of these lines; the library and the model say the same.
+/// What a report says of these lines.
 #[track_caller]
-fn said(cases: &mut Cases, report: Report, input: &[u8]) -> String {
-    let mut driver = Driver::of(cases, report.lines, report);
-    let used = driver.input(input, 300);
-    driver.cases.same(report, used, input.len());
-    String::from_utf8_lossy(&driver.output).into_owned()
+fn said(both: &Both<'static>, report: Report, input: &[u8]) -> String {
+    let mut driver = Driver::of(both, report.lines, report);
+    let used = driver.input(input, 300).used;
+    both.same(report, used, input.len());
+    driver.text()
 }
 
 #[test]
 fn receivers_within_a_frame() {
-    let mut cases = Cases::of("reports of receivers within a frame");
+    let both = Both::of("reports of receivers within a frame");
     let mut random = Random::new(322);
-    let mut verdicts = Tally::of([("verdict", 0, 9)]);
+    let mut verdicts = Tally::of([verdict::ANY]);
     for _ in 0..40_000 {
         let input = input(&mut random, 4);
         let report = within_a_frame(&mut random);
-        let text = said(&mut cases, report, &input);
-        for line in text.lines() {
+        for line in said(&both, report, &input).lines() {
             if let Ok(verdict) = line.split(' ').nth(1).unwrap_or_default().parse() {
                 verdicts.seen([verdict]);
             }
         }
     }
     assert_seen(&[&verdicts]);
-    cases.at_least(6 * 40_000);
+    both.at_least(6 * 40_000);
 }
 
 /// How many bits are held, the bits, a line, and what is printed of it, all by hand.
@@ -65,85 +66,75 @@ const BY_HAND: [(u8, u64, &str, &str); 9] = [
 
 #[test]
 fn words_by_hand() {
-    let mut cases = Cases::of("words behind held bits, by hand");
+    let both = Both::of("words after held bits, by hand");
     for (count, bits, line, expected) in BY_HAND {
         let report = holding(Held { count, bits });
-        let text = said(&mut cases, report, line.as_bytes());
-        cases.same(line, text.as_str(), expected);
+        let text = said(&both, report, line.as_bytes());
+        both.same(line, text.as_str(), expected);
         // The same without line feed, at the end of the input.
-        let mut driver = Driver::of(&mut cases, 0, report);
-        driver.input(line.trim_end().as_bytes(), 34);
-        driver.end(65);
-        let text = String::from_utf8_lossy(&driver.output).into_owned();
-        cases.same(line, text.starts_with(expected), true);
+        let mut driver = Driver::of(&both, 0, report);
+        driver.input(line.trim_end().as_bytes(), LONGEST_LINE);
+        driver.end(LONGEST_END);
+        both.same(line, driver.text().starts_with(expected), true);
     }
-    cases.at_least(2 * 9);
+    both.at_least(17 * 9);
 }
 
-/// A frame of this length and of any fate for which the test holds.
-fn frame(random: &mut Random, length: u8, right: impl Fn(u64) -> bool) -> u64 {
+/// A frame of this kind and of any fate for which the test holds.
+fn frame(random: &mut Random, kind: Kind, right: impl Fn(u64) -> bool) -> Frame {
     loop {
         let frame = any_frame(random, &EVERY_KIND);
-        if frame.length == length && right(frame.number) {
-            return frame.number;
+        if frame.kind() == kind && right(frame.number) {
+            return frame;
         }
     }
 }
 
 /// The verdict of the only line. The word has so many digits, or is `-`.
 #[track_caller]
-fn verdict(cases: &mut Cases, report: Report, line: &str, digits: usize) -> u8 {
-    let text = said(cases, report, line.as_bytes());
+fn verdict(both: &Both<'static>, held: Held, line: &str, digits: usize) -> u8 {
+    let text = said(both, holding(held), line.as_bytes());
     let fields: Vec<&str> = text.trim_end().split(' ').collect();
     let [_, verdict, _, word] = fields[..] else {
         panic!("a line of another form: {text}");
     };
     let no_word = matches!(verdict, "7" | "8");
     let digits = if no_word { 1 } else { digits };
-    cases.same(line, (word.len(), word == "-"), (digits, no_word));
+    both.same(line, (word.len(), word == "-"), (digits, no_word));
     verdict.parse().expect("a digit")
 }
 
 /// The receiver holds all but the last 16 bits of a long frame; these are a short line.
 #[test]
 fn long_frames_by_short_lines() {
-    let mut cases = Cases::of("long frames finished by short lines");
+    let both = Both::of("long frames finished by short lines");
     let mut random = Random::new(324);
     let mut verdicts = Tally::of([("verdict", 2, 9)]);
     for _ in 0..5_000 {
-        let whole = frame(&mut random, 42, |number| number & 0xC000 == 0);
-        let report = holding(Held {
-            count: 26,
-            bits: whole >> 16,
-        });
-        let line = format!("{:04X}\n", whole & 0xFFFF);
-        verdicts.seen([verdict(&mut cases, report, &line, 2)]);
+        let whole = frame(&mut random, Kind::Long, |number| number & 0xC000 == 0);
+        let line = format!("{:04X}\n", whole.back(16).number);
+        verdicts.seen([verdict(&both, whole.front(26).held(), &line, 2)]);
     }
     assert_seen(&[&verdicts]);
-    cases.at_least(7 * 5_000);
+    both.at_least(7 * 5_000);
 }
 
 /// The receiver holds 6 bits of a short frame; its last 10 and two more are a long line.
 #[test]
 fn short_frames_by_long_lines() {
-    let mut cases = Cases::of("short frames finished by long lines");
+    let both = Both::of("short frames finished by long lines");
     let mut random = Random::new(325);
     let mut fates = Tally::of([("fate (executed, stop bit, uncorrectable)", 0, 2)]);
     for _ in 0..5_000 {
-        let first = frame(&mut random, 16, |number| number >> 8 & 3 == 1);
-        let second = frame(&mut random, 16, |_| true);
-        let third = frame(&mut random, 16, |_| true);
-        let report = holding(Held {
-            count: 6,
-            bits: first >> 10,
-        });
-        let line = format!("{:03X}{second:04X}{third:04X}\n", first & 0x3FF);
-        fates.seen([match verdict(&mut cases, report, &line, 8) {
+        let first = frame(&mut random, Kind::Short, |number| number >> 8 & 3 == 1);
+        let [second, third] = [(); 2].map(|_| frame(&mut random, Kind::Short, |_| true).number);
+        let line = format!("{:03X}{second:04X}{third:04X}\n", first.back(10).number);
+        fates.seen([match verdict(&both, first.front(6).held(), &line, 8) {
             1 => 0,
             7 => 1,
             _ => 2,
         }]);
     }
     assert_seen(&[&fates]);
-    cases.at_least(7 * 5_000);
+    both.at_least(7 * 5_000);
 }

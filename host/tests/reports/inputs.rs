@@ -1,10 +1,9 @@
 //! Random inputs and random reports.
 
-use ttcrx_host::ffi::Held;
-use ttcrx_host::random::Random;
-use ttcrx_host::reports::ffi::{LinePart, Report};
-use ttcrx_host::states;
-use ttcrx_host::stored_lines::{lines, EVERY_KIND};
+use ttcrx_host::sys::{Held, LinePart, Report};
+use ttcrx_host::testing::lines::{lines, EVERY_KIND};
+use ttcrx_host::testing::random::Random;
+use ttcrx_host::testing::states;
 
 /// Up to so many random lines, often without the last line feed. None is longer than a few dozen
 /// bytes.
@@ -19,21 +18,27 @@ pub fn input(random: &mut Random, count: u64) -> Vec<u8> {
     input
 }
 
+/// The front of a line with these characters.
+pub fn front(characters: &[u8]) -> LinePart {
+    let mut part = LinePart { count: characters.len() as u8, ..LinePart::default() };
+    part.characters[..characters.len()].copy_from_slice(characters);
+    part
+}
+
+/// The front of a line that is too long.
+pub const TOO_LONG: LinePart = LinePart { count: 12, characters: [0; 11] };
+
 /// The front of a line: any characters but the line feed, often those of a frame.
 fn part(random: &mut Random) -> LinePart {
-    let count = random.below(13) as u8;
-    let mut part = LinePart {
-        count,
-        ..LinePart::default()
-    };
-    if count < 12 {
-        let front = &mut part.characters[..usize::from(count)];
-        match random.once_in(3) {
-            true => front.fill_with(|| random.byte().max(b'\n' + 1)),
-            false => front.fill(b'1'),
-        }
+    let count = random.below(13) as usize;
+    if count == 12 {
+        return TOO_LONG;
     }
-    part
+    let mut characters = vec![b'1'; count];
+    if random.once_in(3) {
+        characters.fill_with(|| random.byte().max(b'\n' + 1));
+    }
+    front(&characters)
 }
 
 /// Line numbers of every length, often the last before they go on from 0.
@@ -49,19 +54,12 @@ fn line_count(random: &mut Random) -> u64 {
 pub fn report(random: &mut Random) -> Report {
     let mut receiver = states::well_formed(random);
     receiver.held = Held::default();
-    Report {
-        receiver,
-        lines: line_count(random),
-        part: part(random),
-    }
+    Report { receiver, lines: line_count(random), part: part(random) }
 }
 
 /// A report whose receiver is well formed, mostly within a frame.
 pub fn within_a_frame(random: &mut Random) -> Report {
-    Report {
-        receiver: states::well_formed(random),
-        ..report(random)
-    }
+    Report { receiver: states::well_formed(random), ..report(random) }
 }
 
 /// A report whose receiver is of any kind, mostly not well formed.

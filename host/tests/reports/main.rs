@@ -1,10 +1,11 @@
-//! The library's functions for whole frames and for reports against the model. A report in pieces
-//! says what the program `ttclines` of document 01 says of the whole input.
+//! `ttcrx_report_start`, `_input` and `_end` against the model. A report in pieces says what the
+//! program `ttclines` of document 01 says of the whole input.
 
+mod calls;
 mod driver;
 mod ends;
 mod held_bits;
 mod inputs;
 mod pieces;
-mod receive;
-mod reports;
+mod receivers;
+mod rooms;

@@ -1,8 +1,8 @@
 //! Every byte value in a line, and lines of bytes that are no digits.
 
 use crate::compare::same;
-use ttcrx_host::cases::Cases;
-use ttcrx_host::random::Random;
+use ttcrx_host::testing::compare::Cases;
+use ttcrx_host::testing::random::Random;
 
 /// A line with each of its places taken by this byte in turn, each followed by a good line. Where
 /// the byte is a line feed it ends the line.
@@ -19,20 +19,19 @@ fn in_every_place(line: &[u8], byte: u8) -> Vec<u8> {
 
 #[test]
 fn every_byte_in_every_place() {
-    let mut cases = Cases::of("every byte in every place of a line");
+    let cases = Cases::of("every byte in every place of a line");
     for byte in 0..=255 {
-        let short = in_every_place(b"004F", byte);
-        let long = in_every_place(b"100150235AD", byte);
-        let name = format!("byte {byte}");
-        same(&mut cases, &name, &[short, long].concat());
+        let lines = [&b"004F"[..], b"100150235AD"];
+        let input = lines.map(|line| in_every_place(line, byte)).concat();
+        same(&cases, &format!("byte {byte}"), &input);
     }
     cases.at_least(2 * 256);
 }
 
-/// The byte before, behind and in the middle of lines, and alone.
+/// The byte before, after and in the middle of lines, and alone.
 #[test]
 fn foreign_bytes_around_lines() {
-    let mut cases = Cases::of("foreign bytes around lines");
+    let cases = Cases::of("foreign bytes around lines");
     for byte in (0..=255).filter(|byte| *byte != b'\n') {
         let mut input = Vec::new();
         for line in [&b"004F"[..], b"04F", b"100150235AD", b"00150235AD", b""] {
@@ -43,7 +42,7 @@ fn foreign_bytes_around_lines() {
             input.extend([&[byte], line, &[byte], b"\n0001\n"].concat());
         }
         input.push(byte);
-        same(&mut cases, &format!("byte {byte}"), &input);
+        same(&cases, &format!("byte {byte}"), &input);
     }
     cases.at_least(2 * 255);
 }
@@ -51,17 +50,17 @@ fn foreign_bytes_around_lines() {
 /// Lines of one byte value, of 0 to 13 bytes.
 #[test]
 fn lines_of_one_byte() {
-    let mut cases = Cases::of("lines of one byte value");
-    for chunk in (0..=255u8).collect::<Vec<_>>().chunks(16) {
+    let cases = Cases::of("lines of one byte value");
+    for first in (0..=255).step_by(16) {
         let mut input = Vec::new();
-        for &byte in chunk {
+        for byte in first..=first + 15 {
             for count in 0..=13 {
                 input.extend(vec![byte; count]);
                 input.extend(b"\n");
             }
             input.extend(b"0001\n");
         }
-        same(&mut cases, &format!("bytes {chunk:?}"), &input);
+        same(&cases, &format!("16 bytes from {first}"), &input);
     }
     cases.at_least(2 * 16);
 }
@@ -69,7 +68,7 @@ fn lines_of_one_byte() {
 /// Random bytes, of which any may be a line feed.
 #[test]
 fn noise() {
-    let mut cases = Cases::of("random bytes");
+    let cases = Cases::of("random bytes");
     let mut random = Random::new(200);
     for feeds in [0, 3, 5, 12, 100] {
         let mut input = vec![0; 100_000];
@@ -79,7 +78,7 @@ fn noise() {
                 *byte = b'\n';
             }
         }
-        same(&mut cases, "noise", &input);
+        same(&cases, "noise", &input);
     }
     cases.at_least(2 * 5);
 }
@@ -87,7 +86,7 @@ fn noise() {
 /// Each digit small or a capital by chance.
 #[test]
 fn mixed_case() {
-    let mut cases = Cases::of("capitals and small letters");
+    let cases = Cases::of("capitals and small letters");
     let mut random = Random::new(201);
     let mut input = Vec::new();
     for _ in 0..20_000 {
@@ -96,8 +95,8 @@ fn mixed_case() {
         input.extend((1..length).map(|_| random.pick(b"0123456789ABCDEFabcdef")));
         input.push(b'\n');
     }
-    same(&mut cases, "all", &input);
-    same(&mut cases, "small", &input.to_ascii_lowercase());
-    same(&mut cases, "capitals", &input.to_ascii_uppercase());
+    same(&cases, "all", &input);
+    same(&cases, "small", &input.to_ascii_lowercase());
+    same(&cases, "capitals", &input.to_ascii_uppercase());
     cases.at_least(2 * 3);
 }

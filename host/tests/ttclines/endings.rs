@@ -3,8 +3,8 @@
 use crate::program::{self, Ended, Scratch};
 use std::fs::File;
 use std::process::{Command, Stdio};
-use ttcrx_host::random::Random;
-use ttcrx_host::stored_lines::{lines, EVERY_KIND};
+use ttcrx_host::testing::lines::{lines, EVERY_KIND};
+use ttcrx_host::testing::random::Random;
 
 /// A directory can be opened but not read. The exit status is always 0: the program can't set it.
 #[test]
@@ -16,9 +16,10 @@ fn a_directory_as_input() {
     assert!(!ended.errors.is_empty(), "nothing on standard error");
 }
 
-/// Far more output than any buffer or pipe holds.
-fn input() -> Vec<u8> {
-    lines(&mut Random::new(221), &EVERY_KIND, 50_000)
+/// No line, one, and far more output than any buffer or pipe holds.
+fn inputs() -> [Vec<u8>; 3] {
+    let many = lines(&mut Random::new(221), &EVERY_KIND, 50_000);
+    [b"".to_vec(), b"004F\n".to_vec(), many]
 }
 
 /// Runs the program under a shell, which redirects before it becomes the program.
@@ -33,22 +34,16 @@ fn redirected(redirection: &str, input: &[u8]) -> Ended {
     program::run(&mut command, |_| {})
 }
 
-/// That it ends in time is tested by `program::run`.
+/// A closed output, and one that is full. That the program ends in time is tested by
+/// `program::run`.
 #[test]
-fn a_closed_output() {
-    for input in [b"".to_vec(), b"004F\n".to_vec(), input()] {
-        let ended = redirected(">&-", &input);
-        assert!(ended.output.is_empty());
-        assert!(!ended.errors.is_empty(), "nothing on standard error");
-    }
-}
-
-#[test]
-fn a_full_output() {
-    for input in [b"".to_vec(), b"004F\n".to_vec(), input()] {
-        let ended = redirected(">/dev/full", &input);
-        assert!(ended.output.is_empty());
-        assert!(!ended.errors.is_empty(), "nothing on standard error");
+fn no_output() {
+    for redirection in [">&-", ">/dev/full"] {
+        for input in inputs() {
+            let ended = redirected(redirection, &input);
+            assert!(ended.output.is_empty());
+            assert!(!ended.errors.is_empty(), "nothing on standard error");
+        }
     }
 }
 
@@ -56,7 +51,7 @@ fn a_full_output() {
 #[test]
 fn nowhere_to_write() {
     for redirection in [">&- 2>&-", ">/dev/full 2>/dev/full", "<&- >&- 2>&-"] {
-        for input in [b"".to_vec(), input()] {
+        for input in inputs() {
             redirected(redirection, &input);
         }
     }
@@ -65,13 +60,10 @@ fn nowhere_to_write() {
 /// A pipe whose other end is closed: the rest of the input is not waited for.
 #[test]
 fn an_output_that_nobody_reads() {
-    for input in [b"".to_vec(), b"004F\n".to_vec(), input()] {
+    for input in inputs() {
         let mut command = Command::new(program::path());
         let (reader, writer) = std::io::pipe().expect("a pipe");
-        command
-            .stdin(Scratch::holding(&input).open())
-            .stdout(writer)
-            .stderr(Stdio::piped());
+        command.stdin(Scratch::holding(&input).open()).stdout(writer).stderr(Stdio::piped());
         drop(reader);
         program::run(&mut command, |_| {});
     }

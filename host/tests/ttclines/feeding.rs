@@ -1,13 +1,12 @@
 //! The same input in other pieces: the output is the same.
 
-use crate::compare::same_end;
+use crate::compare::{same_end, same_from_file};
 use crate::program;
-use std::iter;
-use std::thread;
 use std::time::Duration;
-use ttcrx_host::cases::Cases;
-use ttcrx_host::random::Random;
-use ttcrx_host::stored_lines::{lines, EVERY_KIND};
+use std::{fs, iter, thread};
+use ttcrx_host::testing::compare::Cases;
+use ttcrx_host::testing::lines::{lines, EVERY_KIND};
+use ttcrx_host::testing::random::Random;
 
 /// Random lines, of which the last has no line feed.
 fn input(seed: u64, count: usize) -> Vec<u8> {
@@ -16,30 +15,28 @@ fn input(seed: u64, count: usize) -> Vec<u8> {
     input
 }
 
-/// The input cut into pieces of the lengths that the function gives.
-fn pieces(input: &[u8], mut length: impl FnMut() -> usize) -> impl Iterator<Item = &[u8]> {
+/// Through a pipe in pieces of the lengths that the function gives.
+#[track_caller]
+fn fed(cases: &Cases, input: &[u8], mut length: impl FnMut() -> usize + Send) {
     let mut rest = input;
-    iter::from_fn(move || {
-        let (piece, behind) = rest.split_at(length().min(rest.len()));
-        rest = behind;
+    let pieces = iter::from_fn(|| {
+        let (piece, after) = rest.split_at(length().min(rest.len()));
+        rest = after;
         (!piece.is_empty()).then_some(piece)
-    })
+    });
+    same_end(cases, "pieces", input, &program::fed(pieces));
 }
 
 /// As fast as they can be written, so that a read may bring many; and so slowly that it brings one.
 #[test]
 fn single_bytes() {
-    let mut cases = Cases::of("inputs in pieces of 1 byte");
-    let fast = input(209, 3_000);
-    let ended = program::fed(pieces(&fast, || 1));
-    same_end(&mut cases, "single bytes", &fast, &ended);
-    let slow = &fast[..3_000];
-    let pause = || {
+    let cases = Cases::of("inputs in pieces of 1 byte");
+    let input = input(209, 3_000);
+    fed(&cases, &input, || 1);
+    fed(&cases, &input[..3_000], || {
         thread::sleep(Duration::from_micros(20));
         1
-    };
-    let ended = program::fed(pieces(slow, pause));
-    same_end(&mut cases, "single bytes with pauses", slow, &ended);
+    });
     cases.at_least(2 * 2);
 }
 
@@ -56,12 +53,11 @@ fn piece_length(random: &mut Random) -> usize {
 
 #[test]
 fn random_pieces() {
-    let mut cases = Cases::of("inputs in pieces of random sizes");
+    let cases = Cases::of("inputs in pieces of random sizes");
     let input = input(210, 50_000);
     for seed in 0..10 {
         let mut random = Random::new(seed);
-        let ended = program::fed(pieces(&input, move || piece_length(&mut random)));
-        same_end(&mut cases, "random pieces", &input, &ended);
+        fed(&cases, &input, || piece_length(&mut random));
     }
     cases.at_least(2 * 10);
 }
@@ -69,37 +65,26 @@ fn random_pieces() {
 /// The program finds its input empty now and then, and must wait.
 #[test]
 fn pauses() {
-    let mut cases = Cases::of("inputs that come with pauses");
+    let cases = Cases::of("inputs that come with pauses");
     for seed in 0..5 {
-        let input = input(211 + seed, 150);
         let mut random = Random::new(seed);
-        let slow = move || {
+        fed(&cases, &input(211 + seed, 150), || {
             thread::sleep(Duration::from_micros(random.below(3_000)));
             1 + random.below(40) as usize
-        };
-        let ended = program::fed(pieces(&input, slow));
-        same_end(&mut cases, "pauses", &input, &ended);
+        });
     }
     cases.at_least(2 * 5);
 }
 
+/// Files, a pipe into which nothing is written, and a device that is always empty.
 #[test]
-fn a_file() {
-    let mut cases = Cases::of("an input from a file");
-    let input = input(220, 50_000);
-    same_end(&mut cases, "file", &input, &program::from_file(&input));
-    let empty = program::from_file(b"");
-    same_end(&mut cases, "empty file", b"", &empty);
+fn files_and_nothing() {
+    let cases = Cases::of("inputs from files, and empty ones");
+    same_from_file(&cases, "file", &input(220, 50_000));
+    same_from_file(&cases, "empty file", b"");
     let nothing = program::fed(iter::empty());
-    same_end(&mut cases, "closed pipe", b"", &nothing);
-    cases.at_least(2 * 3);
-}
-
-/// A terminal's end of input is not at hand, but a device that is always empty is.
-#[test]
-fn a_device() {
-    let mut cases = Cases::of("an input from a device");
-    let null = std::fs::File::open("/dev/null").expect("the null device");
-    same_end(&mut cases, "/dev/null", b"", &program::reading(null));
-    cases.at_least(2);
+    same_end(&cases, "closed pipe", b"", &nothing);
+    let null = fs::File::open("/dev/null").expect("the null device");
+    same_end(&cases, "/dev/null", b"", &program::reading(null));
+    cases.at_least(2 * 4);
 }

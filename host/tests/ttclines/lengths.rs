@@ -1,8 +1,8 @@
 //! Lines of every length that can go wrong, alone and among good lines.
 
 use crate::compare::{same, same_from_file};
-use ttcrx_host::cases::Cases;
-use ttcrx_host::random::Random;
+use ttcrx_host::testing::compare::Cases;
+use ttcrx_host::testing::random::Random;
 
 /// Lines that are good at a fresh receiver; none of them clears the bunch counter.
 pub const GOOD: &[u8] = b"2097\n100150235AD\n3FC1\n180150235AD\n004e\n1001710aab7\n";
@@ -27,12 +27,8 @@ pub enum Content {
     BadLast,
 }
 
-pub const CONTENTS: [Content; 4] = [
-    Content::Ones,
-    Content::Digits,
-    Content::Bytes,
-    Content::BadLast,
-];
+pub const CONTENTS: [Content; 4] =
+    [Content::Ones, Content::Digits, Content::Bytes, Content::BadLast];
 
 impl Content {
     pub fn line(self, random: &mut Random, length: usize) -> Vec<u8> {
@@ -49,7 +45,7 @@ impl Content {
 
 #[test]
 fn lines_alone_and_among_good_ones() {
-    let mut cases = Cases::of("lines of chosen lengths");
+    let cases = Cases::of("lines of chosen lengths");
     let mut random = Random::new(202);
     for length in LENGTHS {
         for content in CONTENTS {
@@ -62,8 +58,8 @@ fn lines_alone_and_among_good_ones() {
                 [&line, &b"\n"[..], &line, b"\n", GOOD, &line].concat(),
                 [GOOD, &line, b"\n", GOOD, b"0001"].concat(),
             ] {
-                same(&mut cases, &name, &input);
-                same_from_file(&mut cases, &name, &input);
+                same(&cases, &name, &input);
+                same_from_file(&cases, &name, &input);
             }
         }
     }
@@ -73,7 +69,7 @@ fn lines_alone_and_among_good_ones() {
 /// Lines of every length up to twice the program's buffer and beyond, each longer by one.
 #[test]
 fn every_length() {
-    let mut cases = Cases::of("lines of every length");
+    let cases = Cases::of("lines of every length");
     let mut random = Random::new(203);
     for (first, last) in [(0, 600), (3_900, 4_300), (8_000, 8_400), (12_200, 12_320)] {
         for content in [Content::Ones, Content::Bytes] {
@@ -83,7 +79,7 @@ fn every_length() {
                 input.extend(b"\n2097\n");
             }
             let name = format!("{first} to {last} characters, {content:?}");
-            same_from_file(&mut cases, &name, &input);
+            same_from_file(&cases, &name, &input);
         }
     }
     cases.at_least(2 * 4 * 2);

@@ -1,11 +1,11 @@
 //! The program `ttclines` of document 01, "Stored lines": its whole output, byte for byte, beside
 //! that of the model. TTCLINES names the program, else it is ../target/bin/ttclines.
 
+mod by_hand;
 mod characters;
 mod compare;
 mod counters;
 mod endings;
-mod examples;
 mod feeding;
 mod lengths;
 mod model_streams;

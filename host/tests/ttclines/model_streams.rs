@@ -1,16 +1,16 @@
 //! The model's program over a reader and a writer: the pieces that a reader gives make no
 //! difference, and after an error there is no `end` line.
 
-use crate::compare::difference;
-use std::io::{self, BufRead, BufReader, Read, Write};
-use ttcrx_host::cases::Cases;
-use ttcrx_host::random::Random;
-use ttcrx_host::stored_lines::{lines, EVERY_KIND};
-use ttcrx_host::ttclines::{run, whole_output};
+use crate::compare::same_text;
+use std::io::{self, BufRead, BufReader, ErrorKind, Read, Write};
+use ttcrx_host::model::report::{run, whole_output};
+use ttcrx_host::testing::compare::Cases;
+use ttcrx_host::testing::lines::{lines, EVERY_KIND};
+use ttcrx_host::testing::random::Random;
 
 #[test]
 fn small_buffers() {
-    let mut cases = Cases::of("the model over readers with small buffers");
+    let cases = Cases::of("the model over readers with small buffers");
     let mut random = Random::new(230);
     for capacity in (1..40).chain([4_095, 4_096, 4_097]) {
         let mut input = lines(&mut random, &EVERY_KIND, 3_000);
@@ -18,42 +18,32 @@ fn small_buffers() {
         let mut output = Vec::new();
         let mut reader = BufReader::with_capacity(capacity, &input[..]);
         run(&mut reader, &mut output).expect("no error");
-        let said = difference(&output, &whole_output(&input));
-        cases.same(capacity, said, None);
+        let name = format!("capacity {capacity}");
+        same_text(&cases, &name, &output, &whole_output(&input));
     }
     cases.at_least(42);
 }
 
-/// Reads these bytes, is interrupted, and then fails.
-struct Failing<'a> {
-    bytes: &'a [u8],
-    interrupted: bool,
-}
+/// Reads these bytes, then fails with these errors in turn.
+struct Failing<'a>(&'a [u8], Vec<ErrorKind>);
 
 impl Read for Failing<'_> {
     fn read(&mut self, buffer: &mut [u8]) -> io::Result<usize> {
-        if !self.bytes.is_empty() {
-            return self.bytes.read(buffer);
-        }
-        match self.interrupted {
-            true => Err(io::ErrorKind::InvalidData.into()),
-            false => {
-                self.interrupted = true;
-                Err(io::ErrorKind::Interrupted.into())
-            }
+        match self.0.is_empty() {
+            true => Err(self.1.remove(0).into()),
+            false => self.0.read(buffer),
         }
     }
 }
 
+/// An interrupted read is done again.
 #[test]
 fn a_read_error() {
-    let failing = Failing {
-        bytes: b"004F\n0001\n2097",
-        interrupted: false,
-    };
+    let errors = vec![ErrorKind::Interrupted, ErrorKind::InvalidData];
+    let failing = Failing(b"004F\n0001\n2097", errors);
     let mut output = Vec::new();
     let error = run(&mut BufReader::new(failing), &mut output).expect_err("a read error");
-    assert_eq!(error.kind(), io::ErrorKind::InvalidData);
+    assert_eq!(error.kind(), ErrorKind::InvalidData);
     assert_eq!(output, b"1 1 0 01\n2 1 0 00\n");
 }
 
@@ -63,7 +53,7 @@ fn a_write_error() {
     let mut endless = BufReader::new(io::repeat(b'\n'));
     let mut room = [0; 20];
     let error = run(&mut endless, &mut room.as_mut_slice()).expect_err("no room");
-    assert_eq!(error.kind(), io::ErrorKind::WriteZero);
+    assert_eq!(error.kind(), ErrorKind::WriteZero);
     assert_eq!(&room, b"1 ! 10\n2 ! 10\n3 ! 10");
     assert!(endless.fill_buf().is_ok_and(|left| !left.is_empty()));
 }
@@ -77,12 +67,12 @@ impl Write for Unflushed {
     }
 
     fn flush(&mut self) -> io::Result<()> {
-        Err(io::ErrorKind::StorageFull.into())
+        Err(ErrorKind::StorageFull.into())
     }
 }
 
 #[test]
 fn a_flush_error() {
     let error = run(&mut &b"004F\n"[..], &mut Unflushed).expect_err("a flush error");
-    assert_eq!(error.kind(), io::ErrorKind::StorageFull);
+    assert_eq!(error.kind(), ErrorKind::StorageFull);
 }

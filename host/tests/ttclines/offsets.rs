@@ -3,8 +3,8 @@
 
 use crate::compare::{same, same_from_file};
 use crate::lengths::{Content, CONTENTS, GOOD, LENGTHS};
-use ttcrx_host::cases::Cases;
-use ttcrx_host::random::Random;
+use ttcrx_host::testing::compare::Cases;
+use ttcrx_host::testing::random::Random;
 
 const BUFFER: usize = 4_096;
 
@@ -17,9 +17,8 @@ enum Edge {
 
 /// Whole lines of so many bytes: good ones, and empty ones at the end.
 fn filler(bytes: usize) -> Vec<u8> {
-    let lines: Vec<&[u8]> = GOOD.split_inclusive(|byte| *byte == b'\n').collect();
     let mut filler = Vec::with_capacity(bytes);
-    for line in lines.iter().cycle() {
+    for line in GOOD.split_inclusive(|byte| *byte == b'\n').cycle() {
         if filler.len() + line.len() > bytes {
             break;
         }
@@ -29,17 +28,17 @@ fn filler(bytes: usize) -> Vec<u8> {
     filler
 }
 
-/// Fills the input up so that the edge of the line behind it lies at the offset from a multiple of
+/// Fills the input up so that the edge of the line after it lies at the offset from a multiple of
 /// 4,096, and puts the line there.
 fn place(input: &mut Vec<u8>, line: &[u8], edge: Edge, offset: isize) {
     let before = match edge {
         Edge::FirstCharacter => 0,
         Edge::LineFeed => line.len(),
     };
-    let buffer = BUFFER as isize;
-    let wanted = (offset - before as isize).rem_euclid(buffer);
-    let missing = (wanted - input.len() as isize).rem_euclid(buffer);
+    let missing = (offset - (before + input.len()) as isize).rem_euclid(BUFFER as isize);
     input.extend(filler(missing as usize));
+    let at = (input.len() + before) as isize;
+    assert_eq!((at - offset) % BUFFER as isize, 0, "not at the offset");
     input.extend_from_slice(line);
     input.push(b'\n');
 }
@@ -50,7 +49,7 @@ const OFFSETS: std::ops::RangeInclusive<isize> = -14..=14;
 /// One line in the first buffer or across its end, alone in its input.
 #[test]
 fn at_the_end_of_the_first_buffer() {
-    let mut cases = Cases::of("lines around the end of the first buffer");
+    let cases = Cases::of("lines around the end of the first buffer");
     let mut random = Random::new(204);
     for length in [0, 1, 3, 4, 5, 10, 11, 12, 13] {
         for offset in OFFSETS {
@@ -60,7 +59,7 @@ fn at_the_end_of_the_first_buffer() {
             place(&mut input, &line, Edge::FirstCharacter, offset);
             input.extend(GOOD);
             let name = format!("{length} characters at 4096 + {offset}");
-            same_from_file(&mut cases, &name, &input);
+            same_from_file(&cases, &name, &input);
         }
     }
     cases.at_least(2 * 9 * 29);
@@ -70,15 +69,13 @@ fn at_the_end_of_the_first_buffer() {
 /// line feed.
 #[test]
 fn inputs_that_end_with_a_buffer() {
-    let mut cases = Cases::of("inputs that end around the end of a buffer");
-    for buffers in [1, 2] {
-        for offset in -13..=13 {
+    let cases = Cases::of("inputs that end around the end of a buffer");
+    for end in [BUFFER, 2 * BUFFER] {
+        for bytes in end - 13..=end + 13 {
             for line in [&b"2097"[..], b"100150235AD", b""] {
-                let bytes = (buffers * BUFFER as isize + offset) as usize;
                 let mut input = filler(bytes - line.len());
                 input.extend(line);
-                let name = format!("{bytes} bytes");
-                same_from_file(&mut cases, &name, &input);
+                same_from_file(&cases, &format!("{bytes} bytes"), &input);
             }
         }
     }
@@ -88,7 +85,7 @@ fn inputs_that_end_with_a_buffer() {
 /// Lines of every length of the list at every offset, in one input for each length.
 #[test]
 fn at_every_multiple() {
-    let mut cases = Cases::of("lines around multiples of 4,096");
+    let cases = Cases::of("lines around multiples of 4,096");
     let mut random = Random::new(205);
     for length in LENGTHS {
         let far = if length > 10_000 { 2 } else { 14 };
@@ -102,23 +99,9 @@ fn at_every_multiple() {
             }
             input.extend(GOOD);
             let name = format!("{length} characters, {content:?}");
-            same_from_file(&mut cases, &name, &input);
-            same(&mut cases, &name, &input);
+            same_from_file(&cases, &name, &input);
+            same(&cases, &name, &input);
         }
     }
     cases.at_least(4 * 18 * 4);
-}
-
-/// The edges lie where they are to.
-#[test]
-fn edges_are_placed() {
-    for (edge, before) in [(Edge::FirstCharacter, 0), (Edge::LineFeed, 11)] {
-        for offset in OFFSETS {
-            let mut input = filler(5_000);
-            place(&mut input, b"11111111111", edge, offset);
-            let at = (input.len() - 12 + before) as isize;
-            assert_eq!((at - offset) % BUFFER as isize, 0, "{edge:?} {offset}");
-            assert!(input.ends_with(b"\n11111111111\n"));
-        }
-    }
 }

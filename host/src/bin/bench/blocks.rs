@@ -5,11 +5,10 @@ use crate::patterns::{Bits, PATTERNS, TRIGGERS};
 use crate::table::{millions, ratio, Table};
 use std::hint::black_box;
 use std::time::Instant;
-use ttcrx_host::blocks::model::{self, CLOCKS, NUMBERS};
-use ttcrx_host::blocks::ttcrx::{filled, run_block};
-use ttcrx_host::ffi;
-use ttcrx_host::receiver::Receiver;
-use ttcrx_host::{blocks, ttcrx};
+use ttcrx_host::model::block::{self, CLOCKS, NUMBERS};
+use ttcrx_host::model::Receiver;
+use ttcrx_host::testing::convert;
+use ttcrx_host::ttcrx;
 
 const ID: u16 = 5;
 
@@ -19,18 +18,18 @@ const REAL_CLOCKS: f64 = 40.08e6;
 /// Runs a block on the receiver that it keeps. Gives the number of records.
 trait Kept {
     fn block(&mut self, block: &[u8], out: &mut [u32]) -> usize;
-    fn state(&self) -> ffi::Receiver;
+    fn state(&self) -> ttcrx::Receiver;
 }
 
 /// The library's receiver, lent for each block.
-impl Kept for ffi::Receiver {
+impl Kept for ttcrx::Receiver {
     fn block(&mut self, block: &[u8], out: &mut [u32]) -> usize {
-        let answer = run_block(self, block, out);
+        let answer = ttcrx::run_block(self, block, out);
         assert_eq!(answer.refusal, 0, "a block is refused");
         answer.records
     }
 
-    fn state(&self) -> ffi::Receiver {
+    fn state(&self) -> ttcrx::Receiver {
         *self
     }
 }
@@ -38,11 +37,11 @@ impl Kept for ffi::Receiver {
 /// The model's receiver, with its clock inlined in the loop over the block.
 impl Kept for Receiver {
     fn block(&mut self, block: &[u8], out: &mut [u32]) -> usize {
-        model::run(self, block, out).expect("no block is refused")
+        block::run(self, block, out).expect("no block is refused")
     }
 
-    fn state(&self) -> ffi::Receiver {
-        Receiver::state(self)
+    fn state(&self) -> ttcrx::Receiver {
+        convert::state(self)
     }
 }
 
@@ -57,23 +56,19 @@ fn summed(sum: u64, records: &[u32]) -> u64 {
 /// checksum of their records would take longer than some of them.
 fn measured(mut kept: impl Kept, trace: &[u8]) -> Run {
     let mut buffer = vec![0; NUMBERS * CLOCKS];
-    let mut run = Run {
-        seconds: 0.0,
-        sum: 0,
-        state: kept.state(),
-    };
+    let mut run = Run { seconds: 0.0, sum: 0, state: kept.state() };
     for block in trace.chunks(CLOCKS) {
         let begin = Instant::now();
         let records = kept.block(black_box(block), black_box(&mut buffer));
         run.seconds += begin.elapsed().as_secs_f64();
-        run.sum = summed(run.sum, filled(&buffer, records));
+        run.sum = summed(run.sum, ttcrx::filled(&buffer, records));
     }
     run.state = kept.state();
     run
 }
 
 fn trace(clocks: &[Bits]) -> Vec<u8> {
-    let byte = |bits: &Bits| blocks::byte(bits.trigger.into(), bits.data.into());
+    let byte = |bits: &Bits| block::byte(bits.trigger.into(), bits.data.into());
     clocks.iter().map(byte).collect()
 }
 

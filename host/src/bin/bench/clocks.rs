@@ -4,8 +4,8 @@ use crate::patterns::{Bits, PATTERNS};
 use crate::table::{millions, ratio, Table};
 use std::hint::black_box;
 use std::time::Instant;
-use ttcrx_host::ffi;
-use ttcrx_host::receiver::{Bus, Outputs, Receiver};
+use ttcrx_host::model::{self, Receiver};
+use ttcrx_host::testing::convert;
 use ttcrx_host::ttcrx;
 
 const ROUNDS: usize = 3;
@@ -14,14 +14,12 @@ const ID: u16 = 5;
 /// One more clock's outputs in a checksum of all.
 #[inline]
 pub fn with(sum: u64, shown: u64) -> u64 {
-    (sum ^ shown)
-        .wrapping_mul(0x9E37_79B9_7F4A_7C15)
-        .rotate_left(29)
+    (sum ^ shown).wrapping_mul(0x9E37_79B9_7F4A_7C15).rotate_left(29)
 }
 
 /// All outputs of one clock of the library in one number.
 #[inline]
-pub fn of_library(outputs: &ffi::Outputs) -> u64 {
+pub fn of_library(outputs: &ttcrx::Outputs) -> u64 {
     u64::from(outputs.trigger)
         | u64::from(outputs.missed) << 1
         | u64::from(outputs.strobe) << 2
@@ -33,16 +31,11 @@ pub fn of_library(outputs: &ffi::Outputs) -> u64 {
 
 /// All outputs of one clock of the model in the same number.
 #[inline]
-pub fn of_model(outputs: &Outputs) -> u64 {
-    let (strobe, number) = match outputs.bus {
-        Bus::None => (0, 0),
-        Bus::Bunch(number) => (1, number),
-        Bus::EventLow(number) => (2, number),
-        Bus::EventHigh(number) => (3, number),
-    };
+pub fn of_model(outputs: &model::Outputs) -> u64 {
+    let (strobe, number) = outputs.bus.strobe();
     u64::from(outputs.trigger)
         | u64::from(outputs.missed) << 1
-        | strobe << 2
+        | u64::from(strobe) << 2
         | u64::from(outputs.fate.corrected) << 4
         | (outputs.fate.verdict as u64) << 8
         | u64::from(number) << 16
@@ -53,38 +46,41 @@ pub fn of_model(outputs: &Outputs) -> u64 {
 pub struct Run {
     pub seconds: f64,
     pub sum: u64,
-    pub state: ffi::Receiver,
+    pub state: ttcrx::Receiver,
 }
 
-fn library(clocks: &[Bits]) -> Run {
+/// The library over all inputs, one call each.
+#[inline]
+pub fn library<T>(inputs: &[T], call: impl Fn(ttcrx::Receiver, &T) -> ttcrx::ClockAnswer) -> Run {
     let begin = Instant::now();
     let mut state = ttcrx::fresh(ID, 5).receiver;
     let mut sum = 0;
-    for bits in clocks {
-        let answer = ttcrx::clock(state, bits.trigger.into(), bits.data.into());
+    for input in inputs {
+        let answer = call(state, input);
         sum = with(sum, of_library(&answer.outputs));
         state = answer.receiver;
     }
-    Run {
-        seconds: begin.elapsed().as_secs_f64(),
-        sum,
-        state,
-    }
+    Run { seconds: begin.elapsed().as_secs_f64(), sum, state }
 }
 
-fn model(clocks: &[Bits]) -> Run {
+/// The model over all inputs.
+#[inline]
+pub fn model<T>(inputs: &[T], call: impl Fn(&mut Receiver, &T) -> model::Outputs) -> Run {
     let begin = Instant::now();
     let mut receiver = Receiver::fresh(ID, 5).expect("IDs in range");
     let mut sum = 0;
-    for bits in clocks {
-        let outputs = receiver.clock(bits.trigger, bits.data);
-        sum = with(sum, of_model(&outputs));
+    for input in inputs {
+        sum = with(sum, of_model(&call(&mut receiver, input)));
     }
-    Run {
-        seconds: begin.elapsed().as_secs_f64(),
-        sum,
-        state: receiver.state(),
-    }
+    Run { seconds: begin.elapsed().as_secs_f64(), sum, state: convert::state(&receiver) }
+}
+
+fn by_library(state: ttcrx::Receiver, bits: &Bits) -> ttcrx::ClockAnswer {
+    ttcrx::clock(state, bits.trigger.into(), bits.data.into())
+}
+
+fn by_model(receiver: &mut Receiver, bits: &Bits) -> model::Outputs {
+    receiver.clock(bits.trigger, bits.data)
 }
 
 /// The best times of both sides, which take turns. Outputs and states must be equal.
@@ -106,15 +102,14 @@ pub fn run() {
 value and tests it on every clock; the model keeps its own and tests nothing.
 "
     );
-    let mut table = Table::of(&[
-        "clocks",
-        "ttcrx_clock M/s",
-        "model M/s",
-        "library's time / model's",
-    ]);
+    let mut table =
+        Table::of(&["clocks", "ttcrx_clock M/s", "model M/s", "library's time / model's"]);
     for pattern in &PATTERNS {
         let clocks = pattern.clocks();
-        let (one, other) = best(|| library(black_box(&clocks)), || model(black_box(&clocks)));
+        let (one, other) = best(
+            || library(black_box(&clocks), by_library),
+            || model(black_box(&clocks), by_model),
+        );
         let count = clocks.len() as u64;
         table.row(vec![
             pattern.name.to_string(),

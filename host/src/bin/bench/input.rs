@@ -3,8 +3,8 @@
 use std::fs::File;
 use std::io::{self, BufWriter, Read, Write};
 use std::path::{Path, PathBuf};
-use ttcrx_host::random::Random;
-use ttcrx_host::stored_lines::{push_line, MOSTLY_CLEAN};
+use ttcrx_host::testing::lines::{push_line, MOSTLY_CLEAN};
+use ttcrx_host::testing::random::Random;
 
 /// The same lines on every run.
 const SEED: u64 = 100;
@@ -22,11 +22,7 @@ impl Input {
         let mut file = BufWriter::new(File::create(&path)?);
         let mut random = Random::new(SEED);
         let mut line = Vec::new();
-        let mut input = Input {
-            path,
-            bytes: 0,
-            lines: 0,
-        };
+        let mut input = Input { path, bytes: 0, lines: 0 };
         while input.bytes < bytes {
             line.clear();
             push_line(&mut random, &MOSTLY_CLEAN, &mut line);

@@ -4,14 +4,14 @@ use std::fs;
 use std::path::Path;
 use std::process::Command;
 use std::thread;
-use ttcrx_host::stored_lines::MOSTLY_CLEAN;
+use ttcrx_host::testing::lines::MOSTLY_CLEAN;
 
-/// What stands behind a name in a file of /proc.
+/// What stands after a name in a file of /proc.
 fn proc_entry(file: &str, name: &str) -> String {
     let text = fs::read_to_string(file).unwrap_or_default();
     let entry = text.lines().find_map(|line| {
-        let (first, behind) = line.split_once(':')?;
-        (first.trim() == name).then(|| behind.trim().to_string())
+        let (first, after) = line.split_once(':')?;
+        (first.trim() == name).then(|| after.trim().to_string())
     });
     entry.unwrap_or("unknown".to_string())
 }
@@ -29,11 +29,7 @@ fn print_machine() {
     let memory = proc_entry("/proc/meminfo", "MemTotal");
     let kernel = fs::read_to_string("/proc/sys/kernel/osrelease").unwrap_or_default();
     println!("Machine: {processor}, {cores} cores, {memory} of memory");
-    println!(
-        "System: Linux {}, {}",
-        kernel.trim(),
-        said_by("rustc", "--version")
-    );
+    println!("System: Linux {}, {}", kernel.trim(), said_by("rustc", "--version"));
 }
 
 fn print_builds(proved: &Path, plain: &Path) {
@@ -42,14 +38,8 @@ fn print_builds(proved: &Path, plain: &Path) {
         false => "the release profile of host/Cargo.toml, opt-level 3, overflow checks on",
     };
     let size = fs::metadata(proved).map_or(0, |data| data.len());
-    println!(
-        "ttclines, the proved program: {}, {size} bytes",
-        proved.display()
-    );
-    println!(
-        "ttclines_model, plain Rust over the model: {}",
-        plain.display()
-    );
+    println!("ttclines, the proved program: {}, {size} bytes", proved.display());
+    println!("ttclines_model, plain Rust over the model: {}", plain.display());
     println!("Its build and that of this program, with libttcrx.a: {build}");
 }
 

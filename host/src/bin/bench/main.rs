@@ -34,10 +34,7 @@ fn existing(path: PathBuf, built_by: &str) -> io::Result<PathBuf> {
 }
 
 fn bench() -> io::Result<()> {
-    let proved = existing(
-        path_from("TTCLINES", "../target/bin/ttclines"),
-        "make library",
-    )?;
+    let proved = existing(path_from("TTCLINES", "../target/bin/ttclines"), "make library")?;
     let beside_this_one = env::current_exe()?.with_file_name("ttclines_model");
     let plain = path_from("TTCLINES_MODEL", beside_this_one);
     let plain = existing(plain, "cargo build --release")?;

@@ -1,7 +1,7 @@
 //! The traces of both channels that are clocked through the receivers.
 
-use ttcrx_host::random::Random;
-use ttcrx_host::stored_lines::{any_frame, MOSTLY_CLEAN};
+use ttcrx_host::testing::lines::{any_frame, MOSTLY_CLEAN};
+use ttcrx_host::testing::random::Random;
 
 const CLOCKS: usize = 8_000_000;
 const SEED: u64 = 101;
@@ -24,40 +24,16 @@ pub struct Pattern {
 
 /// Idle and frames, without triggers and with some.
 pub const PATTERNS: [Pattern; 4] = [
-    Pattern {
-        name: "idle-heavy, no triggers",
-        gap: 2_000,
-        triggers: 0,
-    },
-    Pattern {
-        name: "idle-heavy, triggers",
-        gap: 2_000,
-        triggers: 20,
-    },
-    Pattern {
-        name: "frame-heavy, no triggers",
-        gap: 3,
-        triggers: 0,
-    },
-    Pattern {
-        name: "frame-heavy, triggers",
-        gap: 3,
-        triggers: 20,
-    },
+    Pattern { name: "idle-heavy, no triggers", gap: 2_000, triggers: 0 },
+    Pattern { name: "idle-heavy, triggers", gap: 2_000, triggers: 20 },
+    Pattern { name: "frame-heavy, no triggers", gap: 3, triggers: 0 },
+    Pattern { name: "frame-heavy, triggers", gap: 3, triggers: 20 },
 ];
 
 /// Many triggers.
 pub const TRIGGERS: [Pattern; 2] = [
-    Pattern {
-        name: "trigger-heavy, 1 in 4",
-        gap: 200,
-        triggers: 4,
-    },
-    Pattern {
-        name: "a trigger on every clock",
-        gap: 200,
-        triggers: 1,
-    },
+    Pattern { name: "trigger-heavy, 1 in 4", gap: 200, triggers: 4 },
+    Pattern { name: "a trigger on every clock", gap: 200, triggers: 1 },
 ];
 
 impl Pattern {
@@ -69,8 +45,8 @@ impl Pattern {
                 clocks.push(self.clock(&mut random, true));
             }
             let frame = any_frame(&mut random, &MOSTLY_CLEAN);
-            for place in (0..frame.length).rev() {
-                clocks.push(self.clock(&mut random, frame.number >> place & 1 == 1));
+            for bit in frame.bits() {
+                clocks.push(self.clock(&mut random, bit == 1));
             }
         }
         clocks

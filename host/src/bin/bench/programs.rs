@@ -35,11 +35,8 @@ impl Program {
 
 /// The programs, with the plain Rust one second: it is what the others are compared with.
 fn programs(proved: &Path, plain: &Path) -> [Program; 3] {
-    let program = |name, path: &Path, arguments| Program {
-        name,
-        path: path.to_path_buf(),
-        arguments,
-    };
+    let program =
+        |name, path: &Path, arguments| Program { name, path: path.to_path_buf(), arguments };
     [
         program("ttclines", proved, &[]),
         program("ttclines_model", plain, &[]),

@@ -1,0 +1,294 @@
+//! "Frames on channel B" of document 01.
+//!
+//! A frame is encoded as bits in the order sent. A received frame is decoded by a search for the
+//! nearest codeword among itself and its single flips of a protected bit; each one is tried by
+//! encoding its data afresh and comparing the check bits.
+
+use super::Refusal;
+
+/// The two frames, and their widths.
+#[derive(Clone, Copy, Debug, PartialEq, Eq)]
+pub enum Kind {
+    Short = 0,
+    Long = 1,
+}
+
+impl Kind {
+    pub const BOTH: [Kind; 2] = [Kind::Short, Kind::Long];
+
+    /// The kind of this number, if it is one.
+    pub fn of_number(number: u8) -> Option<Kind> {
+        Kind::BOTH.into_iter().find(|kind| kind.number() == number)
+    }
+
+    /// The kind as a number: 0 or 1.
+    pub const fn number(self) -> u8 {
+        self as u8
+    }
+
+    /// "8 data bits", "32 word bits"
+    #[inline]
+    pub const fn data_bits(self) -> u8 {
+        match self {
+            Kind::Short => 8,
+            Kind::Long => 32,
+        }
+    }
+
+    /// "5 check bits", "7 check bits"
+    #[inline]
+    pub const fn check_bits(self) -> u8 {
+        match self {
+            Kind::Short => 5,
+            Kind::Long => 7,
+        }
+    }
+
+    /// "Protected bits are data and check bits": they stand between format and stop.
+    #[inline]
+    pub const fn protected_bits(self) -> u8 {
+        self.data_bits() + self.check_bits()
+    }
+
+    /// The bits of a whole frame, 16 or 42: start, format, protected bits, stop.
+    #[inline]
+    pub const fn length(self) -> u8 {
+        1 + 1 + self.protected_bits() + 1
+    }
+
+    /// "Stored lines": 4 or 11 hexadecimal digits.
+    pub const fn digits(self) -> usize {
+        self.length().div_ceil(4) as usize
+    }
+
+    /// "Stored lines": the word is reported with 2 or 8 digits.
+    pub const fn word_digits(self) -> usize {
+        (self.data_bits() / 4) as usize
+    }
+}
+
+/// What a long word holds beside the fixed bit. A short one has data alone.
+#[derive(Clone, Copy, Debug, Default, PartialEq, Eq)]
+pub struct Fields {
+    pub address: u16,
+    pub e: u8,
+    pub sub_address: u8,
+    pub data: u8,
+}
+
+/// "Fate of a finished frame": the verdicts. 0 is a clock on which no frame finished, and a frame
+/// that was decoded well without a receiver.
+#[derive(Clone, Copy, Debug, Default, PartialEq, Eq)]
+pub enum Verdict {
+    #[default]
+    None = 0,
+    Broadcast = 1,
+    Stored = 2,
+    Reset = 3,
+    Outside = 4,
+    OtherAddress = 5,
+    OtherSubAddress = 6,
+    StopBit = 7,
+    Uncorrectable = 8,
+    FixedBit = 9,
+}
+
+/// The answer to a frame number without a receiver: verdict 7, 8 or 9; else 0, and the fields.
+#[derive(Clone, Copy, Debug, PartialEq, Eq)]
+pub struct Decoded {
+    pub verdict: Verdict,
+    pub corrected: bool,
+    pub word: u32,
+    pub fields: Fields,
+}
+
+/// The columns of data bits 0 to 31; the short frame uses the first eight.
+pub const COLUMNS: [u8; 32] = [
+    7, 11, 13, 14, 19, 21, 22, 25, 26, 28, 35, 37, 38, 41, 42, 44, 49, 50, 52, 56, 67, 69, 70, 73,
+    74, 76, 81, 82, 84, 88, 97, 98,
+];
+
+/// The fixed bit of a long word.
+const FIXED: u32 = 1 << 16;
+
+/// "The exclusive-or of the columns of the data bits that are 1."
+const fn check_number(data: u32) -> u8 {
+    let mut check = 0;
+    let mut bit = 0;
+    while bit < COLUMNS.len() {
+        if (data >> bit) & 1 == 1 {
+            check ^= COLUMNS[bit];
+        }
+        bit += 1;
+    }
+    check
+}
+
+/// The check numbers of every value of each of the four bytes of a word.
+static BYTE_CHECKS: [[u8; 256]; 4] = byte_checks();
+
+const fn byte_checks() -> [[u8; 256]; 4] {
+    let mut checks = [[0; 256]; 4];
+    let mut place = 0;
+    while place < 4 {
+        let mut value = 0;
+        while value < 256 {
+            checks[place][value] = check_number((value as u32) << (8 * place));
+            value += 1;
+        }
+        place += 1;
+    }
+    checks
+}
+
+/// `check_number`, put together from the bytes of the word.
+#[inline]
+fn quick_check_number(data: u32) -> u8 {
+    let [a, b, c, d] = data.to_le_bytes();
+    BYTE_CHECKS[0][usize::from(a)]
+        ^ BYTE_CHECKS[1][usize::from(b)]
+        ^ BYTE_CHECKS[2][usize::from(c)]
+        ^ BYTE_CHECKS[3][usize::from(d)]
+}
+
+/// "First bit sent = most significant": so many bits of a number in the order sent.
+#[inline]
+pub fn bits(number: u64, length: u8) -> impl Iterator<Item = bool> {
+    let places = (0..u32::from(length)).rev();
+    places.map(move |place| number >> place & 1 == 1)
+}
+
+/// So many bits of a value go out after those already sent.
+fn send(sent: u64, value: u32, length: u8) -> u64 {
+    let after = |sent, bit| 2 * sent + u64::from(bit);
+    bits(value.into(), length).fold(sent, after)
+}
+
+/// Start 0, the format bit, data bits, check bits, stop 1.
+fn send_frame(kind: Kind, data: u32) -> u64 {
+    let start = send(0, 0, 1);
+    let head = send(start, kind.number().into(), 1);
+    let body = send(head, data, kind.data_bits());
+    let checked = send(body, check_number(data).into(), kind.check_bits());
+    send(checked, 1, 1)
+}
+
+/// The short frame of a byte.
+pub fn encode_short(data: u8) -> u64 {
+    send_frame(Kind::Short, data.into())
+}
+
+/// The long frame of any 32 word bits, the fixed bit as it is in them.
+pub fn encode_word(word: u32) -> u64 {
+    send_frame(Kind::Long, word)
+}
+
+/// The long frame of these fields, its fixed bit 1. Refusal 13.
+pub fn encode_long(fields: Fields) -> Result<u64, Refusal> {
+    if fields.address > 16383 || fields.e > 1 {
+        return Err(Refusal::Field);
+    }
+    let address = send(0, fields.address.into(), 14);
+    let e = send(address, fields.e.into(), 1);
+    let fixed = send(e, 1, 1);
+    let sub_address = send(fixed, fields.sub_address.into(), 8);
+    let word = send(sub_address, fields.data.into(), 8);
+    Ok(encode_word(word as u32))
+}
+
+/// "Stored lines" and refusal 12: a short number is under 2^14; a long one has bit 40 set and none
+/// above.
+#[inline]
+pub(super) fn leading(kind: Kind, number: u64) -> Result<(), Refusal> {
+    let right = match kind {
+        Kind::Short => number < 1 << 14,
+        Kind::Long => number >> 40 == 1,
+    };
+    match right {
+        true => Ok(()),
+        false => Err(Refusal::Frame),
+    }
+}
+
+/// The data bits of a frame number.
+#[inline]
+fn data_of(kind: Kind, number: u64) -> u32 {
+    ((number >> (1 + kind.check_bits())) & ((1 << kind.data_bits()) - 1)) as u32
+}
+
+/// Are the check bits those of the data bits? No other bit is looked at.
+#[inline]
+fn is_codeword(kind: Kind, number: u64) -> bool {
+    let check = (number >> 1) & ((1 << kind.check_bits()) - 1);
+    u64::from(quick_check_number(data_of(kind, number))) == check
+}
+
+/// The number itself if it is a codeword, else that with one protected bit flipped which is; none
+/// if there is none.
+#[inline]
+fn nearest(kind: Kind, number: u64) -> Option<u64> {
+    if is_codeword(kind, number) {
+        return Some(number);
+    }
+    (1..=kind.protected_bits())
+        .map(|place| number ^ (1 << place))
+        .find(|&flipped| is_codeword(kind, flipped))
+}
+
+/// "Address (bits 31..18), E (17), a fixed 1 (16), sub-address (15..8), data (7..0)" of a long word;
+/// none if the fixed bit is 0. A short word is the data.
+#[inline]
+fn fields_of(kind: Kind, word: u32) -> Option<Fields> {
+    let [data, sub_address, _, _] = word.to_le_bytes();
+    match kind {
+        Kind::Short => Some(Fields { data, ..Fields::default() }),
+        Kind::Long => (word & FIXED != 0).then_some(Fields {
+            address: (word >> 18) as u16,
+            e: (word >> 17 & 1) as u8,
+            sub_address,
+            data,
+        }),
+    }
+}
+
+/// "Fate of a finished frame", verdicts 7, 8 and 9: flag 0, and here no fields.
+fn bad(verdict: Verdict, word: u32) -> Decoded {
+    Decoded { verdict, corrected: false, word, fields: Fields::default() }
+}
+
+/// "Fate of a finished frame": verdicts 7, 8 and 9 in this order; else the corrected frame. With
+/// the widths of one kind as constants the search is faster.
+#[inline(always)]
+fn received(kind: Kind, number: u64) -> Decoded {
+    if number & 1 == 0 {
+        return bad(Verdict::StopBit, 0);
+    }
+    let Some(right) = nearest(kind, number) else {
+        return bad(Verdict::Uncorrectable, 0);
+    };
+    let word = data_of(kind, right);
+    let Some(fields) = fields_of(kind, word) else {
+        return bad(Verdict::FixedBit, word);
+    };
+    Decoded { verdict: Verdict::None, corrected: right != number, word, fields }
+}
+
+/// What a number says as a short frame. Refusal 12.
+pub fn decode_short(number: u64) -> Result<Decoded, Refusal> {
+    leading(Kind::Short, number)?;
+    Ok(received(Kind::Short, number))
+}
+
+/// What a number says as a long frame. Refusal 12.
+pub fn decode_long(number: u64) -> Result<Decoded, Refusal> {
+    leading(Kind::Long, number)?;
+    Ok(received(Kind::Long, number))
+}
+
+/// What a number says as a frame of this kind. Refusal 12.
+pub fn decode(kind: Kind, number: u64) -> Result<Decoded, Refusal> {
+    match kind {
+        Kind::Short => decode_short(number),
+        Kind::Long => decode_long(number),
+    }
+}

@@ -1,0 +1,45 @@
+//! An independent model of document 01, and of Q-3 of document 02: frames, stored lines, fine
+//! delays, the receiver, blocks of clocks, and the program `ttclines`.
+//!
+//! It has its own ways. A received frame is decoded by a search for the nearest codeword. The bits
+//! of an unfinished frame are kept one by one in the order received, a running sequence as the two
+//! words of its event number, and of a Config byte only the bit that may change. It depends on
+//! nothing else of this package.
+
+pub mod block;
+mod delay;
+mod frame;
+mod line;
+mod receiver;
+mod registers;
+pub mod report;
+mod state;
+mod text;
+
+pub use delay::{delay_byte, delay_setting};
+pub use frame::{bits, decode, decode_long, decode_short, encode_long, encode_short, encode_word};
+pub use frame::{Decoded, Fields, Kind, Verdict, COLUMNS};
+pub use line::{read_line, write_line};
+pub use receiver::{Bus, Fate, Outputs, Receiver};
+pub use state::State;
+
+/// "Numbers of refusal", and those of Q-3.
+#[derive(Clone, Copy, Debug, PartialEq, Eq)]
+pub enum Refusal {
+    Bit = 1,
+    State = 2,
+    Id = 3,
+    I2cId = 4,
+    Register = 5,
+    ReadOnly = 6,
+    Config = 7,
+    Setting = 8,
+    DelayByte = 9,
+    LineLength = 10,
+    Character = 11,
+    Frame = 12,
+    Field = 13,
+    LineBuffer = 14,
+    BlockLength = 15,
+    RecordBuffer = 16,
+}

@@ -1,0 +1,89 @@
+//! "Stored lines" of document 01: the text of a reported line.
+
+use super::{Fate, Kind, Refusal, Verdict};
+
+/// The longest line: a number of 20 digits, verdict, corrected flag, a word of 8 digits, three
+/// spaces and the line feed.
+pub(super) const LONGEST: usize = 20 + 1 + 1 + 8 + 3 + 1;
+
+const DIGITS: &[u8; 16] = b"0123456789ABCDEF";
+
+/// A line that is being written, from its front.
+pub(super) struct Text {
+    bytes: [u8; LONGEST],
+    length: usize,
+}
+
+impl Text {
+    /// "Line number, verdict, corrected flag, word"; "or line number, `!`, refusal".
+    #[inline]
+    pub(super) fn of(line: u64, said: Result<(Kind, Fate), Refusal>) -> Text {
+        let mut text = Text { bytes: [0; LONGEST], length: 0 };
+        text.decimal(line);
+        match said {
+            Ok((kind, fate)) => text.fate(kind, fate),
+            Err(refusal) => text.refusal(refusal),
+        }
+        text.push(b'\n');
+        text
+    }
+
+    /// The whole line, with its line feed.
+    #[inline]
+    pub(super) fn line(&self) -> &[u8] {
+        &self.bytes[..self.length]
+    }
+
+    #[inline]
+    fn push(&mut self, byte: u8) {
+        self.bytes[self.length] = byte;
+        self.length += 1;
+    }
+
+    /// The digits are found from the last one on.
+    #[inline]
+    fn decimal(&mut self, mut number: u64) {
+        let count = number.checked_ilog10().unwrap_or(0) as usize + 1;
+        let end = self.length + count;
+        for place in self.bytes[self.length..end].iter_mut().rev() {
+            *place = b'0' + (number % 10) as u8;
+            number /= 10;
+        }
+        self.length = end;
+    }
+
+    /// Verdict, corrected flag, "word (2 or 8 capital digits, `-` for 7 and 8)". The digits are
+    /// those of the line's own kind, the low ones of the word: at a receiver that held bits the
+    /// frame finished may be of the other kind. If none is, the word is 0.
+    #[inline]
+    fn fate(&mut self, kind: Kind, fate: Fate) {
+        self.push(b' ');
+        self.push(DIGITS[fate.verdict as usize]);
+        self.push(b' ');
+        self.push(DIGITS[usize::from(fate.corrected)]);
+        self.push(b' ');
+        match (fate.verdict, kind) {
+            (Verdict::StopBit | Verdict::Uncorrectable, _) => self.push(b'-'),
+            (_, kind) => self.hexadecimal(fate.word, kind.word_digits()),
+        }
+    }
+
+    #[inline]
+    fn hexadecimal(&mut self, word: u32, digits: usize) {
+        let end = self.length + digits;
+        let mut left = word;
+        for place in self.bytes[self.length..end].iter_mut().rev() {
+            *place = DIGITS[(left & 0xF) as usize];
+            left >>= 4;
+        }
+        self.length = end;
+    }
+
+    /// "`!`, refusal", in decimal.
+    fn refusal(&mut self, refusal: Refusal) {
+        self.push(b' ');
+        self.push(b'!');
+        self.push(b' ');
+        self.decimal(refusal as u64);
+    }
+}

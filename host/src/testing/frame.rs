@@ -1,0 +1,86 @@
+//! Frames as bits to be sent, and the one way to send them.
+
+use super::library::Library;
+use crate::model::{self, block, Fields, Kind};
+use crate::sys::{ClockAnswer, Held, Receiver};
+
+/// The bits of a frame, or of a part of it, as a number of that many bits.
+#[derive(Clone, Copy, Debug, PartialEq, Eq)]
+pub struct Frame {
+    pub number: u64,
+    pub length: u8,
+}
+
+impl Frame {
+    /// A frame of this kind, right or not.
+    pub const fn of(kind: Kind, number: u64) -> Frame {
+        Frame { number, length: kind.length() }
+    }
+
+    /// The broadcast of a byte.
+    pub fn short(data: u8) -> Frame {
+        Frame::of(Kind::Short, model::encode_short(data))
+    }
+
+    /// The long frame of these fields, which are in range.
+    pub fn long(fields: Fields) -> Frame {
+        let number = model::encode_long(fields).expect("in range");
+        Frame::of(Kind::Long, number)
+    }
+
+    /// The long frame of any 32 word bits, the fixed bit as it is in them.
+    pub fn word(word: u32) -> Frame {
+        Frame::of(Kind::Long, model::encode_word(word))
+    }
+
+    /// The kind of a whole frame, by its length.
+    #[inline]
+    pub fn kind(self) -> Kind {
+        match self.length == Kind::Short.length() {
+            true => Kind::Short,
+            false => Kind::Long,
+        }
+    }
+
+    /// With these bits flipped.
+    pub fn flipped(self, bits: u64) -> Frame {
+        Frame { number: self.number ^ bits, ..self }
+    }
+
+    /// The first bits, so many.
+    pub fn front(self, count: u8) -> Frame {
+        Frame { number: self.number >> (self.length - count), length: count }
+    }
+
+    /// The last bits, so many.
+    pub fn back(self, count: u8) -> Frame {
+        Frame { number: self.number & ((1 << count) - 1), length: count }
+    }
+
+    /// The bits as a receiver holds them, which has received them and none more.
+    pub fn held(self) -> Held {
+        Held { count: self.length, bits: self.number }
+    }
+
+    /// The bits in the order sent.
+    #[inline]
+    pub fn bits(self) -> impl Iterator<Item = u8> {
+        model::bits(self.number, self.length).map(u8::from)
+    }
+
+    /// The bits as a block of Q-3, without triggers but for this bit on the last clock.
+    pub fn block(self, last_trigger: u8) -> Vec<u8> {
+        let mut block: Vec<u8> = self.bits().map(|bit| block::byte(0, bit)).collect();
+        if let Some(last) = block.last_mut() {
+            *last |= block::byte(last_trigger, 0);
+        }
+        block
+    }
+}
+
+/// Clocks with these bits and without triggers, from this state. Gives the answer of the last; of
+/// no clock, an answer with the state alone.
+pub fn send(library: &dyn Library, state: Receiver, frame: Frame) -> ClockAnswer {
+    let before = ClockAnswer { receiver: state, ..ClockAnswer::default() };
+    frame.bits().fold(before, |last, bit| library.clock(last.receiver, 0, bit))
+}

@@ -1,0 +1,19 @@
+//! What the tests share: one trait for the library and the model, random cases, states, traffic
+//! and lines, comparison, coverage, and the examples of document 01.
+
+pub mod calls;
+pub mod compare;
+pub mod convert;
+pub mod coverage;
+pub mod example;
+pub mod files;
+pub mod frame;
+pub mod lent;
+pub mod library;
+pub mod lines;
+pub mod null;
+pub mod random;
+pub mod states;
+pub mod three_flips;
+pub mod traffic;
+pub mod verdict;

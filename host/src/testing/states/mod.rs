@@ -1,0 +1,135 @@
+//! Random states of ttcrx.h.
+
+pub mod edges;
+
+use super::random::Random;
+use super::traffic;
+use crate::sys::{Core, Counters, Errors, Held, Ids, Receiver, Sequence, Settings};
+
+/// 0 to limit - 1; often at the first or at the last of them.
+fn below(random: &mut Random, limit: u64) -> u64 {
+    let near = random.below(limit.min(3));
+    match random.below(4) {
+        0 => near,
+        1 => limit - 1 - near,
+        _ => random.below(limit),
+    }
+}
+
+/// The bits of a frame that has not arrived whole; often all but the last.
+fn held(random: &mut Random, id: u16) -> Held {
+    if random.once_in(4) {
+        return Held::default();
+    }
+    let frame = traffic::frame(random, id);
+    let missing = match random.once_in(2) {
+        true => 1,
+        false => 1 + random.below(u64::from(frame.length) - 1) as u8,
+    };
+    frame.front(frame.length - missing).held()
+}
+
+fn sequence(random: &mut Random) -> Sequence {
+    let event = below(random, 1 << 24) as u32;
+    match random.below(3) as u8 {
+        0 => Sequence::default(),
+        left => Sequence { left, event },
+    }
+}
+
+fn settings(random: &mut Random) -> Settings {
+    Settings {
+        fine1: random.byte(),
+        fine2: random.byte(),
+        coarse: random.byte(),
+        control: random.byte(),
+        config2: random.byte() & 0x80 | 0x05,
+        config3: random.byte() & 0x80 | 0x27,
+    }
+}
+
+/// A well-formed state. Its unfinished frame may have any fate at this receiver.
+pub fn well_formed(random: &mut Random) -> Receiver {
+    let id = 1 + below(random, 16383) as u16;
+    Receiver {
+        core: Core {
+            ids: Ids { id, i2c: below(random, 64) as u8 },
+            settings: settings(random),
+            errors: Errors {
+                single_errors: below(random, 1 << 16) as u16,
+                double_errors: below(random, 256) as u8,
+                status5: random.below(2) as u8,
+            },
+            counters: Counters {
+                bunch: below(random, 4096) as u16,
+                event: below(random, 1 << 24) as u32,
+            },
+            sequence: sequence(random),
+        },
+        held: held(random, id),
+    }
+}
+
+/// A well-formed state that holds so many bits, the second of them the format.
+pub fn holding(random: &mut Random, count: u8, format: u64) -> Receiver {
+    let mut state = well_formed(random);
+    let after = random.below(1 << (count - 1)) >> 1;
+    let bits = match count {
+        1 => 0,
+        _ => format << (count - 2) | after,
+    };
+    state.held = Held { count, bits };
+    state
+}
+
+/// Any values in all fields, small ones among them.
+pub fn garbage(random: &mut Random) -> Receiver {
+    let mut byte = || random.any_length() as u8;
+    let settings = Settings {
+        fine1: byte(),
+        fine2: byte(),
+        coarse: byte(),
+        control: byte(),
+        config2: byte(),
+        config3: byte(),
+    };
+    let (i2c, double_errors, status5, left, count) = (byte(), byte(), byte(), byte(), byte());
+    Receiver {
+        core: Core {
+            ids: Ids { id: random.any_length() as u16, i2c },
+            settings,
+            errors: Errors { single_errors: random.any_length() as u16, double_errors, status5 },
+            counters: Counters {
+                bunch: random.any_length() as u16,
+                event: random.any_length() as u32,
+            },
+            sequence: Sequence { left, event: random.any_length() as u32 },
+        },
+        held: Held { count, bits: random.any_length() },
+    }
+}
+
+/// The first state with some parts exchanged for those of the second.
+pub fn mixed(random: &mut Random, mut first: Receiver, second: &Receiver) -> Receiver {
+    let mut seldom = || random.once_in(6);
+    let (core, other) = (&mut first.core, &second.core);
+    if seldom() {
+        core.ids = other.ids;
+    }
+    if seldom() {
+        core.settings = other.settings;
+    }
+    if seldom() {
+        core.errors = other.errors;
+    }
+    if seldom() {
+        core.counters = other.counters;
+    }
+    if seldom() {
+        core.sequence = other.sequence;
+    }
+    if seldom() {
+        first.held = second.held;
+    }
+    first
+}

@@ -1,0 +1,7 @@
+//! Compares clock with the model: single clocks from every kind of state, refusals, and long runs
+//! with accesses between the clocks. States that are not well formed are given to read, write and
+//! well_formed too.
+
+mod ill_formed;
+mod runs;
+mod states;

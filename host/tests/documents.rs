@@ -1,0 +1,62 @@
+//! The examples of README.md and docs/USING.md are files of the package, word for word, and every
+//! such file is shown. `make compare` compiles and runs them.
+
+use std::collections::BTreeMap;
+use std::fs;
+use ttcrx_host::testing::files::{path, text};
+
+const DOCUMENTS: [&str; 2] = ["../README.md", "../docs/USING.md"];
+
+/// Every file with this ending: its text and its name.
+fn files(folder: &str, ending: &str) -> BTreeMap<String, String> {
+    let mut files = BTreeMap::new();
+    for entry in fs::read_dir(path(folder)).expect(folder) {
+        let name = entry.expect(folder).file_name();
+        let name = name.into_string().expect("a plain name");
+        if name.ends_with(ending) {
+            files.insert(text(format!("{folder}/{name}")), name);
+        }
+    }
+    files
+}
+
+/// The code blocks of this language in both documents, without the lines that open and close them.
+fn blocks(language: &str) -> Vec<String> {
+    let documents = DOCUMENTS.map(text).concat();
+    let opening = format!("\n```{language}\n");
+    let opened = documents.split(&opening).skip(1);
+    let block = |rest: &str| match rest.split_once("\n```\n") {
+        Some((block, _)) => format!("{block}\n"),
+        None => panic!("a code block does not end:\n{rest}"),
+    };
+    opened.map(block).collect()
+}
+
+/// The code blocks of a language are the files of a folder with an ending.
+fn same(language: &str, folder: &str, ending: &str) {
+    let files = files(folder, ending);
+    let blocks = blocks(language);
+    for block in &blocks {
+        let known = files.contains_key(block);
+        assert!(known, "this is no file of host/{folder}:\n{block}");
+    }
+    for (text, name) in files {
+        let shown = blocks.contains(&text);
+        assert!(shown, "no document shows host/{folder}/{name} as it is");
+    }
+}
+
+#[test]
+fn c_examples_are_files() {
+    same("c", "c/examples", ".c");
+}
+
+#[test]
+fn cpp_examples_are_files() {
+    same("cpp", "c/examples", ".cpp");
+}
+
+#[test]
+fn rust_examples_are_files() {
+    same("rust", "examples", ".rs");
+}

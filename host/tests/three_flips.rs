@@ -1,0 +1,49 @@
+//! Three wrong protected bits: what the decoders answer does not depend on the frame, and
+//! docs/AUDIT.md says so with the right numbers.
+
+use ttcrx_host::model::Kind;
+use ttcrx_host::testing::compare::Cases;
+use ttcrx_host::testing::files::text;
+use ttcrx_host::testing::frame::Frame;
+use ttcrx_host::testing::library::{Library, Model, Proved};
+use ttcrx_host::testing::random::Random;
+use ttcrx_host::testing::three_flips::{count, Counts};
+
+const SHORT: Counts =
+    Counts { ways: 286, another: 220, uncorrectable: 66, fixed_bit: 0, as_sent: 0 };
+
+const LONG: Counts =
+    Counts { ways: 9139, another: 4948, uncorrectable: 3639, fixed_bit: 552, as_sent: 0 };
+
+/// Broadcasts of every byte, and long frames of edge and random words with the fixed bit.
+fn frames() -> Vec<Frame> {
+    let mut random = Random::new(0x3F11);
+    let short = (0..=255).map(Frame::short);
+    let edges = [0, 0x0015_0235, 0x0015_0600, u32::MAX];
+    let words = edges.into_iter().chain((0..60).map(|_| random.number() as u32));
+    short.chain(words.map(|word| Frame::word(word | 1 << 16))).collect()
+}
+
+#[test]
+fn counts_are_the_same_for_every_frame() {
+    let cases = Cases::of("three flips");
+    for frame in frames() {
+        let expected = match frame.kind() {
+            Kind::Short => SHORT,
+            Kind::Long => LONG,
+        };
+        for library in [&Proved as &dyn Library, &Model] {
+            cases.same(frame, count(library, frame), expected);
+        }
+    }
+    cases.at_least(2 * (256 + 64));
+}
+
+#[test]
+fn the_document_has_the_counts() {
+    let document = text("../docs/AUDIT.md");
+    for number in ["286", "220", "66", "9,139", "4,948", "3,639", "552"] {
+        let said = document.contains(&format!(" {number} "));
+        assert!(said, "docs/AUDIT.md does not have the number {number}");
+    }
+}

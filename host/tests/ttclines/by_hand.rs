@@ -1,0 +1,74 @@
+//! Outputs by hand: the example of document 01, and the smallest inputs.
+
+use crate::compare::{same, same_text};
+use crate::program;
+use ttcrx_host::model::report::whole_output;
+use ttcrx_host::testing::compare::Cases;
+use ttcrx_host::testing::example;
+
+/// Input and whole output. The program and the model must both say it.
+#[track_caller]
+fn says(cases: &Cases, input: &str, expected: &str) {
+    let bytes = input.as_bytes();
+    same_text(cases, input, &whole_output(bytes), expected.as_bytes());
+    let program = program::piped(bytes).output;
+    same_text(cases, input, &program, expected.as_bytes());
+    same(cases, input, bytes);
+}
+
+#[test]
+fn the_example_of_document_01() {
+    let cases = Cases::of("the example of document 01");
+    let (input, output) = (example::input(), example::output());
+    says(&cases, &input, &output);
+    says(&cases, input.trim_end(), &output);
+    cases.at_least(2 * 4);
+}
+
+/// Inputs, and what is printed of them.
+const BY_HAND: [(&str, &str); 23] = [
+    // Other examples of document 01: RESET, E = 1, 0095 and 0039, the stray 0 in idle.
+    (
+        "0095\n0039\n1FFFFFFFFFF\n1001710AAB7\n10001023543\n100150600F3\n3FCD\n00D9\n0001",
+        "1 1 1 02\n2 8 0 -\n3 8 0 -\n4 4 0 001710AA\n5 2 0 00010235\n6 3 0 00150600\n7 1 0 FF\n\
+         8 1 0 03\n9 1 0 00\nend 0 0 0 16\n",
+    ),
+    // A long frame with fixed bit 0 has its word shown. Clean, all of it is 0 but the bits of
+    // format and stop.
+    ("10000000001\n", "1 9 0 00000000\nend 0 1 0 42\n"),
+    ("10000000003\n", "1 9 0 00000000\nend 0 1 0 42\n"),
+    // No line, and empty ones.
+    ("", "end 0 0 0 0\n"),
+    ("\n", "1 ! 10\nend 0 0 0 0\n"),
+    ("\n\n", "1 ! 10\n2 ! 10\nend 0 0 0 0\n"),
+    ("\n0001", "1 ! 10\n2 1 0 00\nend 0 0 0 16\n"),
+    ("0001\n\n", "1 1 0 00\n2 ! 10\nend 0 0 0 16\n"),
+    // No last line feed.
+    ("0001", "1 1 0 00\nend 0 0 0 16\n"),
+    ("0001\n0001", "1 1 0 00\n2 1 0 00\nend 0 0 0 32\n"),
+    ("10001023543", "1 2 0 00010235\nend 0 0 0 42\n"),
+    ("000", "1 ! 10\nend 0 0 0 0\n"),
+    ("000G", "1 ! 11\nend 0 0 0 0\n"),
+    ("4000", "1 ! 12\nend 0 0 0 0\n"),
+    // 10 comes before 11, and 11 before 12.
+    ("GGG\nGGGGG\n", "1 ! 10\n2 ! 10\nend 0 0 0 0\n"),
+    ("F00G\nF000000000G\n", "1 ! 11\n2 ! 11\nend 0 0 0 0\n"),
+    ("F000\nF0000000000\n", "1 ! 12\n2 ! 12\nend 0 0 0 0\n"),
+    ("00000000000\n20000000000\n", "1 ! 12\n2 ! 12\nend 0 0 0 0\n"),
+    // Small letters are digits too; the words are shown in capitals.
+    ("004f\n3fcd\n", "1 1 0 01\n2 1 0 FF\nend 0 0 0 0\n"),
+    ("1001710aaB7\n", "1 4 0 001710AA\nend 0 0 0 42\n"),
+    // A carriage return is a character: the line has 5, or a wrong one among 4.
+    ("004F\r\n", "1 ! 10\nend 0 0 0 0\n"),
+    ("004\r\n", "1 ! 11\nend 0 0 0 0\n"),
+    ("\r0001\n\r\n", "1 ! 10\n2 ! 10\nend 0 0 0 0\n"),
+];
+
+#[test]
+fn small_inputs() {
+    let cases = Cases::of("outputs written out by hand");
+    for (input, output) in BY_HAND {
+        says(&cases, input, output);
+    }
+    cases.at_least(23 * 4);
+}

@@ -1,0 +1,160 @@
+//! All mistakes: the function that each is in, the tests that must find it, and what is wrong.
+
+use crate::mistakes::frames::{Sent, Taken};
+use crate::mistakes::*;
+use crate::Shared;
+
+pub struct Mistake {
+    pub name: &'static str,
+    /// Files of ../tests, each with the filter of its tests after a space if only some are to run.
+    pub tests: &'static [&'static str],
+    pub what: &'static str,
+    pub library: Shared,
+}
+
+macro_rules! table {
+    ($($library:ident $file:ident::$name:ident, $($test:literal)+: $what:literal;)*) => {
+        pub static MISTAKES: &[Mistake] = &[$(Mistake {
+            name: stringify!($name),
+            tests: &[$($test),+],
+            what: $what,
+            library: &$library($file::$name),
+        }),*];
+    };
+}
+
+table! {
+    // "Traps seen in our old code" of document 01.
+    Taken frames::stop_bit_tested_last, "frames" "clock":
+        "a frame with stop bit 0 and one wrong bit is corrected and executed";
+    Taken frames::stop_bit_protected, "frames" "clock":
+        "a frame of which the stop bit alone is wrong counts as corrected";
+    Taken frames::every_odd_syndrome_is_one_flip, "frames" "clock" "three_flips":
+        "a syndrome with an odd number of ones that is no column is taken for a wrong check bit";
+    Clock clock::new_event_number_on_bus, "clock":
+        "a sequence shows the event number after its trigger";
+    Clock clock::cleared_bunch_number_on_bus, "clock":
+        "the bus shows bunch number 0 on the clock that clears it";
+    Clock clock::corrected_counted_only_if_ours, "clock":
+        "a corrected frame for another address does not raise the single error counter";
+
+    // Frames and fine delays.
+    Sent frames::check_bits_reversed, "frames" "examples":
+        "the encoders send the check bits least significant first";
+    DelayByte frames::delay_remainder_truncated, "delays":
+        "m is the truncated remainder of K div 15 - n, and 14";
+    DelaySetting frames::delay_byte_240_accepted, "delays":
+        "byte 240 has a setting";
+    Version frames::version_one_too_low, "interface":
+        "the version is one less than that of the header";
+
+    // States and the clock.
+    Fresh clock::i2c_id_before_id, "fresh":
+        "refusal 4 comes before 3";
+    WellFormed clock::short_frame_of_16_bits_held, "clock":
+        "16 held bits of a short frame are well formed";
+    Clock clock::bit_before_state, "clock":
+        "refusal 1 comes before 2";
+    Clock clock::long_frame_of_41_bits, "clock" "lists":
+        "a long frame finishes with its 41st bit: 40 ones end any frame";
+    Clock clock::short_frame_of_15_bits, "clock" "lists":
+        "a short frame finishes with its 15th bit";
+    Clock clock::mode_of_this_clocks_frame, "clock":
+        "a trigger takes the mode that the frame of the same clock writes";
+    Clock clock::last_word_not_missed, "clock":
+        "a trigger on the last word of a sequence is not missed";
+    Clock clock::clear_reaches_sequence, "clock":
+        "a broadcast that clears the event counter clears the kept event number too";
+    Clock clock::reset_keeps_sequence, "clock":
+        "RESET does not end a running sequence";
+    Clock clock::corrected_reset_counted, "clock":
+        "after a corrected RESET the single error counter is 1";
+    Clock clock::status_not_set_by_8, "clock":
+        "verdict 8 does not set status bit 5";
+    Clock clock::double_errors_wrap, "clock":
+        "the double error counter goes from 255 to 0";
+    Clock clock::single_errors_wrap, "clock":
+        "the single error counter goes from 65535 to 0";
+    Clock clock::orbit_of_3564_bunches, "clock":
+        "the bunch counter goes up modulo 3564";
+    Clock clock::address_before_fixed_bit, "clock":
+        "verdict 5 is tested before 9";
+    Clock clock::outside_before_address, "clock":
+        "verdict 4 is tested before 5";
+
+    // Registers.
+    Read registers::register_before_state, "registers":
+        "refusal 5 comes before 2 in a read";
+    Read registers::bunch_high_byte_is_the_low_one, "registers":
+        "register 25 shows the low byte of the bunch counter";
+    Write registers::write_9_clears_high_byte, "registers":
+        "a write to register 9 clears the high byte alone";
+    Write registers::register_19_read_only, "registers":
+        "a write to register 19 is refused by 6";
+    Write registers::config_3_takes_any_byte, "registers":
+        "register 21 stores any byte: refusal 7 is forgotten";
+    Write registers::event_write_ends_sequence, "registers":
+        "a write to the event counter ends a running sequence";
+
+    // Stored lines.
+    ReadLine lines::character_before_length, "lines":
+        "refusal 11 comes before 10";
+    ReadLine lines::frame_before_character, "lines":
+        "refusal 12 comes before 11 where the first digit is wrong";
+    WriteShort lines::room_before_frame, "lines":
+        "refusal 14 comes before 12";
+    WriteShort lines::zero_after_line, "lines":
+        "a byte after the line is written";
+    WriteLong lines::refused_line_writes_a_byte, "lines":
+        "a line refused by 14 writes a byte";
+    WriteLong lines::zero_after_buffer, "lines":
+        "a byte after the lent buffer is written, where the line fills it";
+    WriteLong lines::small_digits_written, "lines":
+        "the digits A to F are written small";
+
+    // Whole frames.
+    Receive clock::kind_2_is_long, "receive":
+        "kind 2 is taken as long";
+    ReceiveShort clock::frame_before_state, "receive":
+        "refusal 12 comes before 2";
+    ReceiveLong clock::held_bits_dropped, "receive":
+        "the bits that the receiver holds are dropped";
+
+    // Blocks.
+    RunBlock blocks::room_before_block_length, "blocks":
+        "refusal 16 comes before 15";
+    RunBlock blocks::clocks_before_a_bad_byte, "blocks":
+        "the clocks before a byte over 3 are done";
+    RunBlock blocks::empty_block_wants_room, "blocks":
+        "an empty block is refused by 16 if the buffer is empty";
+    RunBlock blocks::channels_swapped, "blocks":
+        "bit 0 is channel B, bit 1 the trigger";
+    RunBlock blocks::bunch_after_the_clock, "blocks":
+        "a record has the bunch counter after its clock";
+    RunBlock blocks::missed_not_in_code, "blocks":
+        "the code of a missed trigger is without 64";
+    RunBlock blocks::places_from_1, "blocks":
+        "places count from 1";
+    RunBlock blocks::no_record_for_5, "blocks":
+        "verdict 5 has no record";
+    FilledLength blocks::filled_length_wraps, "blocks":
+        "five times the number of records wraps";
+
+    // Reports.
+    ReportStart reports::report_of_i2c_id_0, "reports":
+        "a report starts with I2C ID 0";
+    ReportInput reports::carriage_return_ends_a_line, "reports":
+        "a carriage return ends a line";
+    ReportInput reports::empty_line_not_counted, "reports":
+        "an empty line is skipped";
+    ReportInput reports::no_room_wanted, "reports":
+        "room_wanted is 0 where input is left";
+    ReportInput reports::line_numbers_from_0, "reports":
+        "line numbers count from 0";
+    ReportInput reports::receiver_of_id_5_only, "reports":
+        "lines go to ID 5, whatever the ID of the receiver";
+    ReportEnd reports::last_line_forgotten, "reports":
+        "a last line without line feed is not reported";
+    ReportEnd reports::end_wants_a_line, "reports":
+        "room_wanted of the end is 34";
+}
