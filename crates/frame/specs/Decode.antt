@@ -30,7 +30,7 @@ judgedWord kind (Word word flag wrong) = cond (fixedZero kind word) (FixedZero w
 unfoldable pub judged : List ℕ → Kind → ℕ → Judged
 judged columns kind number = cond (eqb (stopBit number) 0) StopZero (judgedWord kind (decoded columns (received kind number)))
 
--- an answer that tells neither flag nor fields: they are all 0
+-- an answer without flag and fields: they are all 0
 abbrev pub bareAnswer : ℕ → ℕ → ℕ → Answer
 bareAnswer refusal verdict word = record { refusal = refusal; verdict = verdict; corrected = 0; word = word; fields = broadcast 0 }
 

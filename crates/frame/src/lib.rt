@@ -219,7 +219,7 @@ fn flag_number(flag: bool) -> u8
     0
 }
 
-// An answer that tells neither flag nor fields: they are all 0.
+// An answer without flag and fields: they are all 0.
 fn bare_answer(refusal: u8, verdict: u8, word: u32) -> Answer
     ensures { λ r. ⌜ r ≡ bareAnswer refusal verdict word ⌝ }
 {
