@@ -49,38 +49,27 @@ pub struct Run {
     pub state: ttcrx::Receiver,
 }
 
-/// The library over all inputs, one call each.
-#[inline]
-pub fn library<T>(inputs: &[T], call: impl Fn(ttcrx::Receiver, &T) -> ttcrx::ClockAnswer) -> Run {
+fn library(clocks: &[Bits]) -> Run {
     let begin = Instant::now();
     let mut state = ttcrx::fresh(ID, 5).receiver;
     let mut sum = 0;
-    for input in inputs {
-        let answer = call(state, input);
+    for bits in clocks {
+        let answer = ttcrx::clock(state, bits.trigger.into(), bits.data.into());
         sum = with(sum, of_library(&answer.outputs));
         state = answer.receiver;
     }
     Run { seconds: begin.elapsed().as_secs_f64(), sum, state }
 }
 
-/// The model over all inputs.
-#[inline]
-pub fn model<T>(inputs: &[T], call: impl Fn(&mut Receiver, &T) -> model::Outputs) -> Run {
+fn model(clocks: &[Bits]) -> Run {
     let begin = Instant::now();
     let mut receiver = Receiver::fresh(ID, 5).expect("IDs in range");
     let mut sum = 0;
-    for input in inputs {
-        sum = with(sum, of_model(&call(&mut receiver, input)));
+    for bits in clocks {
+        let outputs = receiver.clock(bits.trigger, bits.data);
+        sum = with(sum, of_model(&outputs));
     }
     Run { seconds: begin.elapsed().as_secs_f64(), sum, state: convert::state(&receiver) }
-}
-
-fn by_library(state: ttcrx::Receiver, bits: &Bits) -> ttcrx::ClockAnswer {
-    ttcrx::clock(state, bits.trigger.into(), bits.data.into())
-}
-
-fn by_model(receiver: &mut Receiver, bits: &Bits) -> model::Outputs {
-    receiver.clock(bits.trigger, bits.data)
 }
 
 /// The best times of both sides, which take turns. Outputs and states must be equal.
@@ -106,10 +95,7 @@ value and tests it on every clock; the model keeps its own and tests nothing.
         Table::of(&["clocks", "ttcrx_clock M/s", "model M/s", "library's time / model's"]);
     for pattern in &PATTERNS {
         let clocks = pattern.clocks();
-        let (one, other) = best(
-            || library(black_box(&clocks), by_library),
-            || model(black_box(&clocks), by_model),
-        );
+        let (one, other) = best(|| library(black_box(&clocks)), || model(black_box(&clocks)));
         let count = clocks.len() as u64;
         table.row(vec![
             pattern.name.to_string(),

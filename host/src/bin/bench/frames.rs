@@ -1,9 +1,11 @@
 //! Whole frames through the library beside single clocks of the model, in this process.
 
-use crate::clocks::{best, library, model};
+use crate::clocks::{best, of_library, of_model, with, Run};
 use crate::table::{millions, ratio, Table};
 use std::hint::black_box;
-use ttcrx_host::model::{Outputs, Receiver};
+use std::time::Instant;
+use ttcrx_host::model::Receiver;
+use ttcrx_host::testing::convert;
 use ttcrx_host::testing::frame::Frame;
 use ttcrx_host::testing::lines::{any_frame, EVERY_KIND, MOSTLY_CLEAN};
 use ttcrx_host::testing::random::Random;
@@ -11,14 +13,30 @@ use ttcrx_host::ttcrx;
 
 const FRAMES: usize = 300_000;
 const SEED: u64 = 102;
+const ID: u16 = 5;
 
-fn by_library(state: ttcrx::Receiver, frame: &Frame) -> ttcrx::ClockAnswer {
-    ttcrx::receive(state, frame.kind().number(), frame.number)
+fn library(frames: &[Frame]) -> Run {
+    let begin = Instant::now();
+    let mut state = ttcrx::fresh(ID, 5).receiver;
+    let mut sum = 0;
+    for frame in frames {
+        let answer = ttcrx::receive(state, frame.kind().number(), frame.number);
+        sum = with(sum, of_library(&answer.outputs));
+        state = answer.receiver;
+    }
+    Run { seconds: begin.elapsed().as_secs_f64(), sum, state }
 }
 
 /// The outputs of a frame's last clock count; those before it show nothing.
-fn by_model(receiver: &mut Receiver, frame: &Frame) -> Outputs {
-    receiver.send(frame.number, frame.length)
+fn model(frames: &[Frame]) -> Run {
+    let begin = Instant::now();
+    let mut receiver = Receiver::fresh(ID, 5).expect("IDs in range");
+    let mut sum = 0;
+    for frame in frames {
+        let outputs = receiver.send(frame.number, frame.length);
+        sum = with(sum, of_model(&outputs));
+    }
+    Run { seconds: begin.elapsed().as_secs_f64(), sum, state: convert::state(&receiver) }
 }
 
 /// Measures, and prints the table.
@@ -34,10 +52,7 @@ pub fn run() {
     for (name, mix) in [("mostly clean", MOSTLY_CLEAN), ("often damaged", EVERY_KIND)] {
         let mut random = Random::new(SEED);
         let frames: Vec<Frame> = (0..FRAMES).map(|_| any_frame(&mut random, &mix)).collect();
-        let (one, other) = best(
-            || library(black_box(&frames), by_library),
-            || model(black_box(&frames), by_model),
-        );
+        let (one, other) = best(|| library(black_box(&frames)), || model(black_box(&frames)));
         let clocks = frames.iter().map(|frame| u64::from(frame.length)).sum();
         table.row(vec![
             name.to_string(),
