@@ -1,5 +1,6 @@
 //! The examples of README.md and docs/USING.md are files of the package, word for word, and every
-//! such file is shown. `make compare` compiles and runs them.
+//! such file is shown. `make compare` compiles and runs them. Links and paths of all pages lead
+//! somewhere.
 
 use std::collections::BTreeMap;
 use std::fs;
@@ -59,4 +60,49 @@ fn cpp_examples_are_files() {
 #[test]
 fn rust_examples_are_files() {
     same("rust", "examples", ".rs");
+}
+
+/// README.md and the pages of docs/, each with the folder that its links count from.
+fn pages() -> Vec<(&'static str, String)> {
+    let mut pages = vec![("..", text("../README.md"))];
+    for folder in ["../docs", "../docs/requests"] {
+        pages.extend(files(folder, ".md").into_keys().map(|page| (folder, page)));
+    }
+    pages
+}
+
+/// What stands between two marks in a page, each time.
+fn between<'a>(page: &'a str, open: &'a str, close: &'a str) -> impl Iterator<Item = &'a str> {
+    let opened = page.split(open).skip(1);
+    opened.filter_map(move |rest| rest.split_once(close).map(|(inside, _)| inside))
+}
+
+#[test]
+fn links_lead_to_files() {
+    let mut links = 0;
+    for (folder, page) in pages() {
+        for link in between(&page, "](", ")") {
+            let there = path(folder).join(link).exists();
+            assert!(there, "{folder}: no file for the link {link}");
+            links += 1;
+        }
+    }
+    assert!(links > 60, "{links} links");
+}
+
+/// Records of requests have the names of their time, and a word in capitals stands for any name.
+#[test]
+fn paths_lead_to_files() {
+    let mut paths = 0;
+    let pages = pages().into_iter().filter(|(folder, _)| !folder.ends_with("requests"));
+    for (_, page) in pages {
+        for name in page.split('`') {
+            let named = ["crates/", "host/", "include/"].iter().any(|top| name.starts_with(top));
+            if named && !name.contains(' ') && !name.contains("NAME") {
+                assert!(path("..").join(name).exists(), "no file {name}");
+                paths += 1;
+            }
+        }
+    }
+    assert!(paths > 100, "{paths} paths");
 }

@@ -39,6 +39,15 @@ fn counts_are_the_same_for_every_frame() {
     cases.at_least(2 * (256 + 64));
 }
 
+/// Four wrong bits can make another frame, without a correction.
+#[test]
+fn four_flips_of_the_document() {
+    let sent = Frame::short(0x00);
+    let flips = 1 << 6 | 0b111 << 1;
+    assert_eq!((sent.number, sent.flipped(flips)), (0x0001, Frame::short(0x01)));
+    assert_eq!(sent.flipped(flips).number, 0x004F);
+}
+
 #[test]
 fn the_document_has_the_counts() {
     let document = text("../docs/AUDIT.md");
