@@ -3,12 +3,12 @@
  * clock by clock, with register accesses between clocks, frame by frame, or a block of clocks at
  * once; and reports of stored lines. docs/USING.md shows how it is used.
  *
- * Every function takes every value of its arguments. Each answer begins with a number of refusal:
- * TTCRX_ACCEPTED (0), or one of the TTCRX_REFUSED_ numbers. A refused call leaves every other field
- * of its answer 0, but for a state that was given, which comes back as it was; it leaves a state that
- * was lent as it was, and writes nothing of a lent buffer. ttcrx_version, ttcrx_well_formed,
- * ttcrx_filled_length and the functions on reports refuse nothing, and their answers have no such
- * number.
+ * Every function takes every value of its arguments, but for pointers (below). Each answer begins with
+ * a number of refusal: TTCRX_ACCEPTED (0), or one of the TTCRX_REFUSED_ numbers. A refused call leaves
+ * every other field of its answer 0, but for a state that was given, which comes back as it was; it
+ * leaves a state that was lent as it was, and writes nothing of a lent buffer. ttcrx_version,
+ * ttcrx_well_formed, ttcrx_filled_length and the functions on reports refuse nothing, and their answers
+ * have no such number.
  *
  * A function that is lent characters, bytes or a buffer takes a pointer and a length in elements. What
  * the caller must ensure: the pointer is aligned and valid for that length, for writing too where it
@@ -17,9 +17,10 @@
  * nothing else writes those elements, nor reads those that are lent for writing. Characters may be any
  * bytes, and no zero byte ends them.
  *
- * A frame is a number whose most significant bit is sent first: start bit, format bit, word, check
- * bits, stop bit. A short frame (broadcast) has 16 bits with a word of 8; a long frame
- * (individually addressed) has 42 with a word of 32.
+ * A frame is a number whose most significant bit is sent first. A short frame (broadcast) has 16 bits:
+ * start bit 0, format bit 0, a word of 8, 5 check bits, stop bit 1. A long frame (individually
+ * addressed) has 42: start bit 0, format bit 1, a word of 32, 7 check bits, stop bit 1. Word and check
+ * bits are protected: bits 1 to 13 of a short number, 1 to 39 of a long one. Bit 0 is the stop bit.
  */
 #ifndef TTCRX_H
 #define TTCRX_H
@@ -183,7 +184,8 @@ typedef struct ttcrx_counters {
 /*
  * A trigger starts a sequence on the bus, by bits 1 and 0 of register 3: 0: nothing; 1: the bunch
  * number on the same clock; 2: event low on the same clock, event high on the next; 3: bunch number,
- * event low, event high on three clocks. These are the words that it has still to show.
+ * event low, event high on three clocks. Event low is bits 11 to 0 of the event number, event high
+ * bits 23 to 12. These are the words that it has still to show.
  */
 typedef struct ttcrx_sequence {
     uint8_t left;   /* 0, 1 or 2 */
@@ -202,8 +204,9 @@ typedef struct ttcrx_core {
 /* The bits of an unfinished frame. */
 typedef struct ttcrx_held {
     uint8_t count; /* how many, 0 to 41; 0 while the receiver waits for a start bit */
-    uint64_t bits; /* as a number, the first received most significant, which is 0; from 16 bits on
-                      the second is 1; 0 while the receiver waits */
+    uint64_t bits; /* as a number, the first received most significant. The first is 0, so it is
+                      under 2^(count - 1); from 16 bits on the second is 1, so it is 2^(count - 2) or
+                      more; 0 while the receiver waits */
 } ttcrx_held;
 
 typedef struct ttcrx_receiver {
@@ -378,7 +381,7 @@ ttcrx_clock_answer ttcrx_clock(ttcrx_receiver receiver, uint8_t trigger, uint8_t
  * The byte that a register holds; the state stays as it is. Refusals, in this order: 2: a state that
  * is not well formed; 5: a register that is not in the map. The byte is then 0.
  */
-ttcrx_read_answer ttcrx_read(ttcrx_receiver receiver, uint8_t number);
+ttcrx_read_answer ttcrx_read(ttcrx_receiver receiver, uint8_t register_number);
 
 /*
  * Writes a byte to a register. Registers 0 to 3, 20 and 21 store it; a write to any byte of a
@@ -387,7 +390,7 @@ ttcrx_read_answer ttcrx_read(ttcrx_receiver receiver, uint8_t number);
  * 17, 18 or 22; 7: register 20 or 21, and a byte that differs from the fresh one in bits 6 to 0. The
  * receiver is then the one given.
  */
-ttcrx_write_answer ttcrx_write(ttcrx_receiver receiver, uint8_t number, uint8_t value);
+ttcrx_write_answer ttcrx_write(ttcrx_receiver receiver, uint8_t register_number, uint8_t value);
 
 /*
  * Feeds a whole frame to the receiver: its bits in the order sent, one a clock, without triggers. The

@@ -1,7 +1,9 @@
-//! Three wrong protected bits: what the decoders answer does not depend on the frame, and
-//! docs/AUDIT.md says so with the right numbers.
+//! Damage that the code does not find. Three wrong protected bits: what the decoders answer does not
+//! depend on the frame, and docs/AUDIT.md says so with the right numbers. Its examples of four wrong
+//! bits, and of a wrong start bit.
 
 use ttcrx_host::model::Kind;
+use ttcrx_host::sys::VERDICT_BROADCAST;
 use ttcrx_host::testing::compare::Cases;
 use ttcrx_host::testing::files::text;
 use ttcrx_host::testing::frame::Frame;
@@ -46,6 +48,24 @@ fn four_flips_of_the_document() {
     let flips = 1 << 6 | 0b111 << 1;
     assert_eq!((sent.number, sent.flipped(flips)), (0x0001, Frame::short(0x01)));
     assert_eq!(sent.flipped(flips).number, 0x004F);
+}
+
+/// With a wrong start bit the receiver reads other bits as a frame: a broadcast that nobody sent.
+#[test]
+fn a_wrong_start_bit_of_the_document() {
+    let sent = Frame::of(Kind::Long, 0x100_97FF_FF65);
+    let decoded = Proved.decode_long(sent.number);
+    assert_eq!((decoded.verdict, decoded.corrected, decoded.fields.address), (0, 0, 37));
+    let mut receiver = Proved.fresh(5, 5).receiver;
+    let mut executed = Vec::new();
+    for bit in sent.flipped(1 << 41).bits() {
+        let answer = Proved.clock(receiver, 0, bit);
+        receiver = answer.receiver;
+        if answer.outputs.verdict == VERDICT_BROADCAST {
+            executed.push(answer.outputs.word);
+        }
+    }
+    assert_eq!(executed, [0x02]);
 }
 
 #[test]

@@ -10,9 +10,12 @@ static char text[TTCRX_LONGEST_END]; /* a larger buffer needs fewer calls */
 /* Writes out what a call has written, and gives the report to go on with. */
 static ttcrx_report go_on(ttcrx_reported done)
 {
-    if (done.room_wanted > sizeof text) /* with this buffer no call can go on */
+    if (done.room_wanted > sizeof text) {
+        fprintf(stderr, "a buffer of %zu bytes is needed\n", done.room_wanted);
         exit(1);
-    fwrite(text, 1, done.written, stdout);
+    }
+    if (fwrite(text, 1, done.written, stdout) != done.written)
+        exit(1);
     return done.report;
 }
 
@@ -31,8 +34,11 @@ static ttcrx_report give(ttcrx_report report, const char *input, size_t length)
 
 int main(void)
 {
+    ttcrx_fresh_answer fresh = ttcrx_fresh(7, 0); /* not ID 5 */
+    if (fresh.refusal != TTCRX_ACCEPTED)
+        return 1;
     ttcrx_report report = ttcrx_report_start();
-    report.receiver = ttcrx_fresh(7, 0).receiver; /* not ID 5 */
+    report.receiver = fresh.receiver;
 
     const char *first = "004F\n1001D0235";          /* a line, and the front of one */
     const char *second = "DD\n100150235AD\n004E\n"; /* its end; a line for ID 5; stop bit 0 */

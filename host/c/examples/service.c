@@ -63,5 +63,6 @@ int main(void)
     assert(ttcrx_read(receiver, 26).byte == 1); /* registers may be read between blocks */
 
     block[3] = 4; /* no clock has such a byte: the whole block is refused */
-    return work(&receiver, block, sizeof block);
+    int done = work(&receiver, block, sizeof block);
+    return done ? 1 : 0;
 }
