@@ -172,7 +172,7 @@ module _ (columns : Kind → List ℕ) where
   unfoldable pub endWork : ℕ → Report → Work
   endWork room now = cond (ltb room longestEnd) (work now 0 []) (work (afterLast now) 0 (endPrints now))
 
--- and the room is wanted
+-- the room that the end wants: none if the buffer has it
 unfoldable pub endWanted : ℕ → ℕ
 endWanted room = cond (ltb room longestEnd) longestEnd 0
 

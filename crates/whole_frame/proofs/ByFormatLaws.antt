@@ -11,7 +11,7 @@ use Rattle.frame.specs.Numbers.{formatBit}
 use Rattle.receiver_state.specs.declared.Receiver.{Receiver}
 use Rattle.receiver_state.specs.WellFormed.{wellFormed}
 use Rattle.whole_frame.specs.WholeFrame.{receiveAnswer}
-use Rattle.whole_frame.specs.ByFormat.{kindOf, receiveByFormat, OfAKind, OfNoKind, FormatTheorem}
+use Rattle.whole_frame.specs.ByFormat.{kindOf, receiveByFormat, OfAKind, OfBadState, OfNoKind, FormatTheorem}
 
 kind-back : (kind : Kind) → kindOf (formatBit kind) ≡ kind
 unfolding kindOf
@@ -32,9 +32,13 @@ module _ (columns : Kind → List ℕ) where
   of-a-kind : OfAKind columns
   of-a-kind r kind number = rw (sym (accepted-format r (formatBit kind) number (bit-small kind)), kind-back kind) refl
 
+  of-bad-state : OfBadState columns
+  unfolding receiveByFormat
+  of-bad-state r format number w = rw w refl
+
   of-no-kind : OfNoKind columns
   unfolding receiveByFormat
   of-no-kind r format number w over = rw (w, lt-ltb 1 format over) refl
 
 pub format-theorem : FormatTheorem
-format-theorem columns = record { of-a-kind = of-a-kind columns; of-no-kind = of-no-kind columns }
+format-theorem columns = record { of-a-kind = of-a-kind columns; of-bad-state = of-bad-state columns; of-no-kind = of-no-kind columns }

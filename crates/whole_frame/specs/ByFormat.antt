@@ -1,7 +1,7 @@
 -- A whole frame whose kind is given by its format bit, as a stored line that was read answers it.
 use Prim.Native.Nat.{ℕ, _<_}
 use mathlib.Core.Path.{_≡_}
-use mathlib.Core.Bool.{true, cond}
+use mathlib.Core.Bool.{true, false, cond}
 use mathlib.Core.List.{List}
 use lib.Dec.{eqb, ltb}
 use Rattle.frame.specs.declared.Kind.{Kind}
@@ -30,13 +30,18 @@ module _ (columns : Kind → List ℕ) where
   abbrev pub OfAKind : Type 0
   OfAKind = (r : Receiver) (kind : Kind) (number : ℕ) → receiveByFormat columns r (formatBit kind) number ≡ receiveAnswer columns r kind number
 
-  -- any other number is refused by 12, after 2
+  -- a state that is not well formed is refused by 2, whatever the format
+  abbrev pub OfBadState : Type 0
+  OfBadState = (r : Receiver) (format number : ℕ) → wellFormed r ≡ false → receiveByFormat columns r format number ≡ refusedClock 2 r
+
+  -- then any other number by 12
   abbrev pub OfNoKind : Type 0
   OfNoKind = (r : Receiver) (format number : ℕ) → wellFormed r ≡ true → 1 < format → receiveByFormat columns r format number ≡ refusedClock 12 r
 
 -- Proved in proofs/ByFormatLaws.antt.
 pub record FormatLaws (columns : Kind → List ℕ) : Type 0 where
   pub of-a-kind : OfAKind columns
+  pub of-bad-state : OfBadState columns
   pub of-no-kind : OfNoKind columns
 
 abbrev pub FormatTheorem : Type 0
