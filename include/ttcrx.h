@@ -53,7 +53,7 @@ uint32_t ttcrx_version(void);
 #define TTCRX_REFUSED_I2C_ID 4         /* an I2C ID over 63 */
 #define TTCRX_REFUSED_REGISTER 5       /* a register that is not in the map */
 #define TTCRX_REFUSED_READ_ONLY 6      /* a write to register 16, 17, 18 or 22 */
-#define TTCRX_REFUSED_CONFIG 7         /* a write to 20 or 21 that differs in bits 6 to 0 */
+#define TTCRX_REFUSED_CONFIG 7         /* a write to 20 or 21: bits 6 to 0 are not the fresh ones */
 #define TTCRX_REFUSED_SETTING 8        /* a fine delay setting over 239 */
 #define TTCRX_REFUSED_DELAY_BYTE 9     /* a fine delay byte over 239 */
 #define TTCRX_REFUSED_LINE_LENGTH 10   /* a line that has not 4 or 11 characters */
@@ -66,9 +66,9 @@ uint32_t ttcrx_version(void);
 
 /*
  * Verdicts on a finished frame, the field verdict of a clock's outputs. 1 to 4 were executed; 7 to 9
- * were dropped, and each raised the double error counter, which stays at 255 once it is there. A
- * frame with verdict 1, 2, 4, 5 or 6 that was corrected raised the single error counter, which stays
- * at 65535. RESET clears both.
+ * were dropped, and each raised the double error counter, up to 255. A frame with verdict 1, 2, 4, 5
+ * or 6 that was corrected raised the single error counter, up to 65535. RESET clears both, and so does
+ * a write to their registers.
  */
 #define TTCRX_VERDICT_NONE 0              /* no frame finished on this clock */
 #define TTCRX_VERDICT_BROADCAST 1         /* short: data bit 0 clears the bunch, 1 the event counter */
@@ -79,7 +79,7 @@ uint32_t ttcrx_version(void);
 #define TTCRX_VERDICT_OTHER_SUB_ADDRESS 6 /* a sub-address without a meaning: no effect */
 #define TTCRX_VERDICT_STOP_BIT 7          /* the stop bit was 0: dropped */
 #define TTCRX_VERDICT_UNCORRECTABLE 8     /* more bits were wrong than can be corrected: dropped */
-#define TTCRX_VERDICT_FIXED_BIT 9         /* the fixed bit of a long frame is 0: dropped */
+#define TTCRX_VERDICT_FIXED_BIT 9         /* long, fixed bit 0 after correction: dropped */
 
 /* The field verdict of a decoder is this, or one of the verdicts 7, 8 and 9. */
 #define TTCRX_DECODED_GOOD 0
@@ -173,7 +173,7 @@ typedef struct ttcrx_settings {
 typedef struct ttcrx_errors {
     uint16_t single_errors;
     uint8_t double_errors;
-    uint8_t status5; /* 0 after a frame whose stop bit was 0; 1 after any other, and fresh */
+    uint8_t status5; /* 0 or 1: 0 after a frame whose stop bit was 0; 1 after any other, and fresh */
 } ttcrx_errors;
 
 typedef struct ttcrx_counters {
@@ -182,10 +182,10 @@ typedef struct ttcrx_counters {
 } ttcrx_counters;
 
 /*
- * A trigger starts a sequence on the bus, by bits 1 and 0 of register 3: 0: nothing; 1: the bunch
- * number on the same clock; 2: event low on the same clock, event high on the next; 3: bunch number,
- * event low, event high on three clocks. Event low is bits 11 to 0 of the event number, event high
- * bits 23 to 12. These are the words that it has still to show.
+ * If no words are left, a trigger starts a sequence on the bus, by bits 1 and 0 of register 3:
+ * 0: nothing; 1: the bunch number on the same clock; 2: event low on the same clock, event high on the
+ * next; 3: bunch number, event low, event high on three clocks. Event low is bits 11 to 0 of the event
+ * number, event high bits 23 to 12. These are the words that it has still to show.
  */
 typedef struct ttcrx_sequence {
     uint8_t left;   /* 0, 1 or 2 */
@@ -309,7 +309,7 @@ typedef struct ttcrx_reported {
     size_t written; /* bytes of the buffer written, from its front; those beyond stay */
     size_t room_wanted; /* 0: all was done. Else room stopped the call: go on with a buffer of at least
                            so many bytes, TTCRX_LONGEST_LINE or TTCRX_LONGEST_END; with a smaller one
-                           no call can do anything */
+                           the same call does nothing, however often it is made */
 } ttcrx_reported;
 
 /* Room for the text of any line, and room that is always enough for the end. */
@@ -394,12 +394,15 @@ ttcrx_write_answer ttcrx_write(ttcrx_receiver receiver, uint8_t register_number,
 
 /*
  * Feeds a whole frame to the receiver: its bits in the order sent, one a clock, without triggers. The
- * answer is that of the last clock. Kind and number are as ttcrx_read_line answers them. It is meant
- * for a receiver that waits (held.count is 0). One that holds bits takes these as more bits of that
- * frame; a frame that so finishes on an earlier clock acts, and only the state shows it. Refusals, in
- * this order: 2: a state that is not well formed; 12: a kind over 1, or a number that is no frame of
- * this kind, as for the decoders. The receiver is then the one given, no clock is done, and all
- * outputs are 0.
+ * answer is that of the last clock. Kind and number are as ttcrx_read_line answers them; test its
+ * refusal first: a refused line has kind 0 and number 0, which is a short frame with stop bit 0.
+ *
+ * It is meant for a receiver that waits (held.count is 0). One that holds bits takes these as more bits
+ * of that frame; a frame that so finishes on an earlier clock acts, and only the state shows it.
+ *
+ * Refusals, in this order: 2: a state that is not well formed; 12: a kind over 1, or a number that is
+ * no frame of this kind, as for the decoders. The receiver is then the one given, no clock is done, and
+ * all outputs are 0.
  */
 ttcrx_clock_answer ttcrx_receive(ttcrx_receiver receiver, uint8_t kind, uint64_t number);
 
@@ -447,7 +450,7 @@ ttcrx_report ttcrx_report_start(void);
  * space stands between them. The word is in capital hexadecimal digits, or '-' with verdicts 7 and 8;
  * all else is decimal. It has 2 digits in a line of 4 characters and 8 in one of 11, also if the
  * receiver given held bits of another frame, so that the line's last bit finishes that one, or none
- * (verdict 0).
+ * (verdict 0); of a longer word these are the last digits.
  *
  * It works until the piece is used up or fewer than TTCRX_LONGEST_LINE bytes of the buffer are free.
  * If input is left, room_wanted is TTCRX_LONGEST_LINE, else 0: write out the text, and give the rest

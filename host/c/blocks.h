@@ -131,9 +131,10 @@ static int refused_by(uint8_t refusal, ttcrx_receiver given, size_t clocks, size
 }
 
 /* A refused block writes no byte of the receiver: a store to this one would end the program. */
-static int refused_unwritten(uint8_t refusal, size_t clocks, size_t numbers)
+static int refused_unwritten(const ttcrx_receiver *state, uint8_t refusal, size_t clocks,
+                             size_t numbers)
 {
-    ttcrx_receiver *lent = (ttcrx_receiver *)&fresh_5;
+    ttcrx_receiver *lent = (ttcrx_receiver *)state;
     return outcome_is(ttcrx_run_block(lent, block, clocks, (uint32_t *)records, numbers), refusal,
                       0);
 }
@@ -142,25 +143,27 @@ static void check_refused_blocks(void)
 {
     memset(block, IDLE_TRIGGER, sizeof block);
     block[2] = 4;
-    CHECK(refused_by(TTCRX_REFUSED_STATE, ill_formed(), MOST, 0));
+    CHECK(refused_by(TTCRX_REFUSED_STATE, ill_formed, MOST, 0));
     CHECK(refused_by(TTCRX_REFUSED_BLOCK_LENGTH, fresh_5, MOST, 0));
     CHECK(refused_by(TTCRX_REFUSED_RECORD_BUFFER, fresh_5, 3, NUMBERS(3) - 1));
     CHECK(refused_by(TTCRX_REFUSED_BIT, fresh_5, 3, NUMBERS(3)));
-    CHECK(refused_unwritten(TTCRX_REFUSED_BLOCK_LENGTH, MOST, NUMBERS(MOST)));
-    CHECK(refused_unwritten(TTCRX_REFUSED_RECORD_BUFFER, 1, 0));
-    CHECK(refused_unwritten(TTCRX_REFUSED_BIT, TTCRX_BLOCK_CLOCKS, NUMBERS(TTCRX_BLOCK_CLOCKS)));
+    CHECK(refused_unwritten(&ill_formed, TTCRX_REFUSED_STATE, 1, NUMBERS(1)));
+    CHECK(refused_unwritten(&fresh_5, TTCRX_REFUSED_BLOCK_LENGTH, MOST, NUMBERS(MOST)));
+    CHECK(refused_unwritten(&fresh_5, TTCRX_REFUSED_RECORD_BUFFER, 1, 0));
+    CHECK(refused_unwritten(&fresh_5, TTCRX_REFUSED_BIT, TTCRX_BLOCK_CLOCKS,
+                            NUMBERS(TTCRX_BLOCK_CLOCKS)));
     CHECK(only_records(0));
 }
 
 static void check_empty_blocks(void)
 {
     ttcrx_receiver receiver = fresh_5;
-    ttcrx_receiver bad = ill_formed();
+    ttcrx_receiver bad = ill_formed;
     CHECK(outcome_is(ttcrx_run_block(&receiver, NULL, 0, NULL, 0), TTCRX_ACCEPTED, 0));
     CHECK(outcome_is(ttcrx_run_block(&bad, NULL, 0, NULL, 0), TTCRX_REFUSED_STATE, 0));
     CHECK(outcome_is(ttcrx_run_block(&receiver, block, 1, NULL, 0), TTCRX_REFUSED_RECORD_BUFFER,
                      0));
-    CHECK(same_state(receiver, fresh_5) && same_state(bad, ill_formed()));
+    CHECK(same_state(receiver, fresh_5) && same_state(bad, ill_formed));
 }
 
 static void check_filled_length(void)

@@ -33,19 +33,12 @@ static void check(int holds, const char *what, const char *file, int line)
 #define RESET_5 UINT64_C(0x100150600F3)
 #define RESET_5_WORD 0x00150600
 
-/* The fresh state of ID 5 and I2C ID 5. It lies in memory that cannot be written. */
-static const ttcrx_receiver fresh_5 = {
-    {{5, 5}, {0, 0, 0, 0x93, 0x85, 0xA7}, {0, 0, 1}, {0, 0}, {0, 0}},
-    {0, 0},
-};
-
-/* A state that is not well formed. */
-static ttcrx_receiver ill_formed(void)
-{
-    ttcrx_receiver receiver = fresh_5;
-    receiver.core.errors.status5 = 2;
-    return receiver;
-}
+/* The fresh state of ID 5 and I2C ID 5, and one that is not well formed. They lie in memory that cannot
+   be written. */
+#define STATE_5(status5) \
+    {{{5, 5}, {0, 0, 0, 0x93, 0x85, 0xA7}, {0, 0, status5}, {0, 0}, {0, 0}}, {0, 0}}
+static const ttcrx_receiver fresh_5 = STATE_5(1);
+static const ttcrx_receiver ill_formed = STATE_5(2);
 
 static int same_settings(ttcrx_settings one, ttcrx_settings other)
 {

@@ -117,7 +117,7 @@ static void check_fresh(void)
     CHECK(fresh_is(ttcrx_fresh(16384, 64), TTCRX_REFUSED_ID, zero));
     CHECK(fresh_is(ttcrx_fresh(16383, 64), TTCRX_REFUSED_I2C_ID, zero));
     CHECK(ttcrx_well_formed(fresh_5) == 1);
-    CHECK(ttcrx_well_formed(ill_formed()) == 0);
+    CHECK(ttcrx_well_formed(ill_formed) == 0);
 }
 
 /* Two triggers: the first shows the bunch number, the second is missed. Then RESET, bit by bit. */
@@ -140,7 +140,7 @@ static void check_clocks(void)
 
 static void check_refused_clocks(void)
 {
-    CHECK(clock_refused(ttcrx_clock(ill_formed(), 2, 2), TTCRX_REFUSED_STATE, ill_formed()));
+    CHECK(clock_refused(ttcrx_clock(ill_formed, 2, 2), TTCRX_REFUSED_STATE, ill_formed));
     CHECK(clock_refused(ttcrx_clock(fresh_5, 2, 0), TTCRX_REFUSED_BIT, fresh_5));
     CHECK(clock_refused(ttcrx_clock(fresh_5, 1, 2), TTCRX_REFUSED_BIT, fresh_5));
 }
@@ -164,9 +164,9 @@ static void check_registers(void)
     CHECK(read_is(ttcrx_read(stored.receiver, 2), TTCRX_ACCEPTED, 0x35));
     CHECK(read_is(ttcrx_read(counted, 9), TTCRX_ACCEPTED, 0x76));
     CHECK(write_is(ttcrx_write(counted, 9, 0xA5), TTCRX_ACCEPTED, fresh_5));
-    CHECK(read_is(ttcrx_read(ill_formed(), 4), TTCRX_REFUSED_STATE, 0));
+    CHECK(read_is(ttcrx_read(ill_formed, 4), TTCRX_REFUSED_STATE, 0));
     CHECK(read_is(ttcrx_read(fresh_5, 4), TTCRX_REFUSED_REGISTER, 0));
-    CHECK(write_is(ttcrx_write(ill_formed(), 4, 0), TTCRX_REFUSED_STATE, ill_formed()));
+    CHECK(write_is(ttcrx_write(ill_formed, 4, 0), TTCRX_REFUSED_STATE, ill_formed));
     CHECK(write_is(ttcrx_write(fresh_5, 4, 0), TTCRX_REFUSED_REGISTER, fresh_5));
     CHECK(write_is(ttcrx_write(fresh_5, 22, 0xE0), TTCRX_REFUSED_READ_ONLY, fresh_5));
     CHECK(write_is(ttcrx_write(fresh_5, 21, 0x85), TTCRX_REFUSED_CONFIG, fresh_5));
@@ -185,7 +185,7 @@ static void check_whole_frames(void)
     CHECK(received(rest, TTCRX_VERDICT_STORED, 0, WRITE_35_WORD));
     CHECK(received(ttcrx_receive(fresh_5, TTCRX_LONG, RESET_5), TTCRX_VERDICT_RESET, 0,
                    RESET_5_WORD));
-    CHECK(clock_refused(ttcrx_receive(ill_formed(), 2, 0), TTCRX_REFUSED_STATE, ill_formed()));
+    CHECK(clock_refused(ttcrx_receive(ill_formed, 2, 0), TTCRX_REFUSED_STATE, ill_formed));
     CHECK(clock_refused(ttcrx_receive(fresh_5, 2, WRITE_35), TTCRX_REFUSED_FRAME, fresh_5));
     CHECK(clock_refused(ttcrx_receive_short(fresh_5, 0x4001), TTCRX_REFUSED_FRAME, fresh_5));
     CHECK(clock_refused(ttcrx_receive_long(fresh_5, 0x0095), TTCRX_REFUSED_FRAME, fresh_5));

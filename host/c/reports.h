@@ -132,9 +132,9 @@ static void check_refused_lines(void)
     CHECK(on.report.lines == 5 && on.report.part.count == 12);
     CHECK(same_state(on.report.receiver, fresh_5));
     on = begin();
-    on.report.receiver = ill_formed();
+    on.report.receiver = ill_formed;
     input(&on, "004F\n4001\n", ROOM, 10, 0);
-    CHECK(text_is(&on, "1 ! 2\n2 ! 12\n") && same_state(on.report.receiver, ill_formed()));
+    CHECK(text_is(&on, "1 ! 2\n2 ! 12\n") && same_state(on.report.receiver, ill_formed));
 }
 
 /* Another ID; and a line that finishes a long frame: its word has 2 digits, as a short one has. */

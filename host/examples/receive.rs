@@ -10,6 +10,7 @@ fn main() {
 
     // A stored line: the broadcast of 02 with a wrong check bit. It clears the event counter.
     let line = ttcrx::read_line(b"0095");
+    assert_eq!(line.refusal, ttcrx::ACCEPTED);
     let answer = ttcrx::receive(answer.receiver, line.kind, line.number);
     assert_eq!(answer.outputs.verdict, ttcrx::VERDICT_BROADCAST);
     assert_eq!((answer.outputs.corrected, answer.outputs.word), (1, 0x02));

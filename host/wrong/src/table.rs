@@ -55,6 +55,8 @@ table! {
         "16 held bits of a short frame are well formed";
     Clock clock::bit_before_state, "clock":
         "refusal 1 comes before 2";
+    Clock clock::refused_clock_counts, "clock":
+        "a clock that is refused by 1 raises the bunch counter";
     Clock clock::long_frame_of_41_bits, "clock" "lists":
         "a long frame finishes with its 41st bit: 40 ones end any frame";
     Clock clock::short_frame_of_15_bits, "clock" "lists":
@@ -93,6 +95,8 @@ table! {
         "a write to register 19 is refused by 6";
     Write registers::config_3_takes_any_byte, "registers":
         "register 21 stores any byte: refusal 7 is forgotten";
+    Write registers::refused_write_stores, "registers":
+        "a write that is refused by 7 stores a byte";
     Write registers::event_write_ends_sequence, "registers":
         "a write to the event counter ends a running sequence";
 
@@ -113,6 +117,8 @@ table! {
         "the digits A to F are written small";
 
     // Whole frames.
+    Receive clock::kind_ignored, "receive":
+        "the kind is taken from the number, whatever was given";
     Receive clock::kind_2_is_long, "receive":
         "kind 2 is taken as long";
     ReceiveShort clock::frame_before_state, "receive":
@@ -149,6 +155,8 @@ table! {
         "an empty line is skipped";
     ReportInput reports::no_room_wanted, "reports":
         "room_wanted is 0 where input is left";
+    ReportInput reports::room_always_wanted, "reports":
+        "room_wanted is 34 although all was used";
     ReportInput reports::line_numbers_from_0, "reports":
         "line numbers count from 0";
     ReportInput reports::receiver_of_id_5_only, "reports":

@@ -191,3 +191,16 @@ pub fn held_bits_dropped(receiver: Receiver, number: u64) -> ClockAnswer {
     let held = Held::default();
     Model.receive_long(Receiver { held, ..receiver }, number)
 }
+
+pub fn kind_ignored(receiver: Receiver, _: u8, number: u64) -> ClockAnswer {
+    let kind = if number >> 40 == 1 { LONG } else { SHORT };
+    Model.receive(receiver, kind, number)
+}
+
+pub fn refused_clock_counts(receiver: Receiver, trigger: u8, data: u8) -> ClockAnswer {
+    let mut answer = Model.clock(receiver, trigger, data);
+    if answer.refusal == REFUSED_BIT {
+        answer.receiver.core.counters.bunch = (receiver.core.counters.bunch + 1) % 4096;
+    }
+    answer
+}

@@ -52,3 +52,11 @@ pub fn event_write_ends_sequence(receiver: Receiver, number: u8, value: u8) -> W
     }
     answer
 }
+
+pub fn refused_write_stores(receiver: Receiver, number: u8, value: u8) -> WriteAnswer {
+    let mut answer = Model.write(receiver, number, value);
+    if answer.refusal == REFUSED_CONFIG {
+        answer.receiver.core.settings.control = value;
+    }
+    answer
+}

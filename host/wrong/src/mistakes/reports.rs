@@ -70,3 +70,7 @@ pub fn end_wants_a_line(report: Report, buffer: &mut [u8]) -> Reported {
     done.room_wanted = done.room_wanted.min(LONGEST_LINE);
     done
 }
+
+pub fn room_always_wanted(report: Report, input: &[u8], buffer: &mut [u8]) -> Reported {
+    Reported { room_wanted: LONGEST_LINE, ..Model.report_input(report, input, buffer) }
+}
