@@ -4,6 +4,7 @@
 
 use std::collections::BTreeMap;
 use std::fs;
+use std::process::Command;
 use ttcrx_host::testing::files::{path, text};
 
 const DOCUMENTS: [&str; 2] = ["../README.md", "../docs/USING.md"];
@@ -60,6 +61,19 @@ fn cpp_examples_are_files() {
 #[test]
 fn rust_examples_are_files() {
     same("rust", "examples", ".rs");
+}
+
+/// The session of docs/USING.md: a command after `$`, and what it prints.
+#[test]
+fn the_session_prints_what_the_page_shows() {
+    let page = text("../docs/USING.md");
+    let (_, rest) = page.split_once("\n    $ ").expect("a session");
+    let (session, _) = rest.split_once("\n\n").expect("it ends");
+    let (command, shown) = session.split_once('\n').expect("it prints");
+    let run = Command::new("sh").args(["-c", command]).current_dir(path("..")).output();
+    let printed = String::from_utf8(run.expect("sh runs").stdout).expect("plain text");
+    let shown: Vec<&str> = shown.lines().map(str::trim).collect();
+    assert_eq!(printed.lines().collect::<Vec<_>>(), shown);
 }
 
 /// README.md and the pages of docs/, each with the folder that its links count from.
