@@ -63,13 +63,13 @@ fn rust_examples_are_files() {
     same("rust", "examples", ".rs");
 }
 
-/// The session of docs/USING.md: a command after `$`, and what it prints.
+/// The command of docs/USING.md after `$` prints what the page shows.
 #[test]
-fn the_session_prints_what_the_page_shows() {
+fn the_command_prints_what_the_page_shows() {
     let page = text("../docs/USING.md");
-    let (_, rest) = page.split_once("\n    $ ").expect("a session");
-    let (session, _) = rest.split_once("\n\n").expect("it ends");
-    let (command, shown) = session.split_once('\n').expect("it prints");
+    let (_, rest) = page.split_once("\n    $ ").expect("a command");
+    let (all, _) = rest.split_once("\n\n").expect("it ends");
+    let (command, shown) = all.split_once('\n').expect("it prints");
     let run = Command::new("sh").args(["-c", command]).current_dir(path("..")).output();
     let printed = String::from_utf8(run.expect("sh runs").stdout).expect("plain text");
     let shown: Vec<&str> = shown.lines().map(str::trim).collect();
