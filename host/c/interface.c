@@ -1,11 +1,12 @@
 /*
  * The C interface used from C11 and from C++17: the layouts of ttcrx.h, every function called
- * through the header, and every number of refusal. Comparisons of many cases are in host/tests.
+ * through the header, every number of refusal, and document 01's tables. More cases are in host/tests.
  */
 #include "blocks.h"
 #include "checks.h"
 #include "layouts.h"
 #include "reports.h"
+#include "tables.h"
 
 static int encoded_is(ttcrx_encoded answer, uint8_t refusal, uint64_t number)
 {
@@ -205,6 +206,7 @@ int main(void)
     check_whole_frames();
     check_blocks();
     check_reports();
+    check_tables();
     if (failed != 0) {
         return 1;
     }
