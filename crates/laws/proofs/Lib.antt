@@ -5,3 +5,4 @@ pub mod Xor
 pub mod Powers
 pub mod Below
 pub mod Sets
+pub mod Remainder
