@@ -10,6 +10,7 @@ use Rattle.fine_delay.specs.declared.DelayByte.{DelayByte}
 use Rattle.fine_delay.specs.declared.DelaySetting.{DelaySetting}
 use Rattle.fine_delay.specs.Delay.{byteOf, settingOf, settingToByte, byteToSetting}
 use Rattle.fine_delay.specs.Inverse.{SettingBack, ByteBack, NoSettingBeyond}
+use Rattle.fine_delay.proofs.Naturals.{byte-in-naturals}
 
 -- ---- the rules
 
@@ -22,8 +23,7 @@ unfolding byteOf settingOf
 byte-of-setting byte h = eqb-true (byteOf (settingOf byte)) byte (below 240 (λ (i : ℕ). eqb (byteOf (settingOf i)) i) refl byte h)
 
 byte-below : (k : ℕ) → byteOf k < 240
-unfolding byteOf
-byte-below k = omega arith
+byte-below k = rw (byte-in-naturals k) (omega arith)
 
 setting-below : (byte : ℕ) → settingOf byte < 240
 unfolding settingOf

@@ -1,14 +1,17 @@
--- Document 01, "Registers": fine delay settings and their bytes. Nothing here depends on the table of src/lib.rt.
+-- Document 01, "Registers": fine delay settings and their bytes.
 -- `DelayByte` and `DelaySetting` are structs of src/lib.rt.
-use Prim.Native.Nat.{ℕ, _+_, _-_, _*_, _/_, _%_}
+use Prim.Native.Nat.{ℕ, _+_, _*_, _/_, _%_}
 use mathlib.Core.Bool.{cond}
 use lib.Dec.{ltb}
+use lib.IntN.{pos, _+ℤ_, _-ℤ_}
+use Rattle.laws.specs.Remainder.{_%ℤ_}
 use Rattle.fine_delay.specs.declared.DelayByte.{DelayByte}
 use Rattle.fine_delay.specs.declared.DelaySetting.{DelaySetting}
 
--- "With n = K mod 15 and m = (K div 15 − n + 14) mod 16, the byte is 16n + m". The 14 is added first: n is at most 14, so nothing is negative.
+-- "With n = K mod 15 and m = (K div 15 − n + 14) mod 16, the byte is 16n + m". The difference is an integer, negative
+-- where n is the larger. `pos` makes a number an integer; `%ℤ` is the mathematical remainder.
 unfoldable pub byteOf : ℕ → ℕ
-byteOf k = 16 * (k % 15) + (k / 15 + 14 - k % 15) % 16
+byteOf k = 16 * (k % 15) + (pos (k / 15) -ℤ pos (k % 15) +ℤ pos 14) %ℤ 16
 
 -- "back, K = (15m + 16n + 30) mod 240"
 unfoldable pub settingOf : ℕ → ℕ

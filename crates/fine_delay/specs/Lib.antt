@@ -1,4 +1,4 @@
 pub mod Delay
-pub mod Table
 pub mod Inverse
 pub mod Laws
+pub mod Naturals
