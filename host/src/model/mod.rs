@@ -1,10 +1,11 @@
-//! An independent model of document 01, and of Q-3 of document 02: frames, stored lines, fine
+//! An independent model of document 01, and of of document 02: frames, stored lines, fine
 //! delays, the receiver, blocks of clocks, and the program `ttclines`.
 //!
 //! It has its own ways. A received frame is decoded by a search for the nearest codeword. The bits
 //! of an unfinished frame are kept one by one in the order received, a running sequence as the two
-//! words of its event number, and of a Config byte only the bit that may change. It depends on
-//! nothing else of this package.
+//! words of its event number, and of a Config byte only the bit that may change. The byte of a fine
+//! delay setting is found by the formula of the way back. It depends on nothing else of this
+//! package.
 
 pub mod block;
 mod delay;
