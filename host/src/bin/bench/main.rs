@@ -4,6 +4,7 @@
 mod blocks;
 mod child;
 mod clocks;
+mod delays;
 mod frames;
 mod input;
 mod machine;
@@ -45,6 +46,7 @@ fn bench() -> io::Result<()> {
     programs::run(&proved, &plain, &folder)?;
     clocks::run();
     frames::run();
+    delays::run();
     blocks::run();
     println!("Everywhere the results of both sides were equal.");
     Ok(())
