@@ -1,4 +1,4 @@
--- Integers as the code holds them, in an i32: how large sums and differences get, and that what fits is loaded as it was stored.
+-- Integers as the code holds them, in an i32: how large sums and differences get, and that a difference is loaded as it was stored.
 -- `mag z` is n both for n and for −(n + 1), as in the kit. Assumes nothing.
 use Prim.Native.Nat.{ℕ, zero, suc, _+_, _<_, _≤_, _^_, zero-le}
 use mathlib.Core.Path.{_≡_, _∙_, subst⁻¹}

@@ -3,14 +3,13 @@ use Prim.Native.Nat.{ℕ, _<_}
 use mathlib.Core.Path.{_≡_, refl, ap, _∙_}
 use native.Mathlib.Nat.{le-of-suc-le-suc}
 use native.Mathlib.Omega.{arith}
-use borrow.Author.Tests.{eqb-true, le-ltb}
-use lib.Dec.{eqb}
+use borrow.Author.Tests.{eqb-true, ltb-true, le-ltb}
+use lib.Dec.{eqb, ltb}
 use Rattle.laws.proofs.Below.{below}
 use Rattle.fine_delay.specs.declared.DelayByte.{DelayByte}
 use Rattle.fine_delay.specs.declared.DelaySetting.{DelaySetting}
 use Rattle.fine_delay.specs.Delay.{byteOf, settingOf, settingToByte, byteToSetting}
 use Rattle.fine_delay.specs.Inverse.{SettingBack, ByteBack, NoSettingBeyond}
-use Rattle.fine_delay.proofs.Naturals.{byte-in-naturals}
 
 -- ---- the rules
 
@@ -22,8 +21,9 @@ byte-of-setting : (byte : ℕ) → byte < 240 → byteOf (settingOf byte) ≡ by
 unfolding byteOf settingOf
 byte-of-setting byte h = eqb-true (byteOf (settingOf byte)) byte (below 240 (λ (i : ℕ). eqb (byteOf (settingOf i)) i) refl byte h)
 
-byte-below : (k : ℕ) → byteOf k < 240
-byte-below k = rw (byte-in-naturals k) (omega arith)
+byte-below : (k : ℕ) → k < 240 → byteOf k < 240
+unfolding byteOf
+byte-below k h = ltb-true (byteOf k) 240 (below 240 (λ (i : ℕ). ltb (byteOf i) 240) refl k h)
 
 setting-below : (byte : ℕ) → settingOf byte < 240
 unfolding settingOf
@@ -42,7 +42,7 @@ setting-answer byte h = rw (le-ltb 239 byte (le-of-suc-le-suc h))
 pub setting-back : SettingBack
 setting-back k h = (
   ap (λ (a : DelayByte). a .refusal) (byte-answer k h),
-  ap (λ (a : DelayByte). byteToSetting (a .byte)) (byte-answer k h) ∙ setting-answer (byteOf k) (byte-below k)
+  ap (λ (a : DelayByte). byteToSetting (a .byte)) (byte-answer k h) ∙ setting-answer (byteOf k) (byte-below k h)
       ∙ ap (λ (s : ℕ). record { refusal = 0; setting = s }) (setting-of-byte k h),
 )
 
@@ -54,4 +54,4 @@ byte-back byte h = (
 )
 
 pub no-setting-beyond : NoSettingBeyond
-no-setting-beyond k h = rw (byte-answer k h) (omega (arith, byte-below k))
+no-setting-beyond k h = rw (byte-answer k h) (omega (arith, byte-below k h))

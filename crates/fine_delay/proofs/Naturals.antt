@@ -1,4 +1,4 @@
--- With the 14 added first the rule needs no negative number: the laws of sums of integers. Assumes nothing.
+-- With the 14 added first the rule needs no negative number, by the laws of sums of integers. Assumes nothing.
 use Prim.Native.Nat.{ℕ, _+_, _-_, _*_, _/_, _%_, _≤_}
 use mathlib.Core.Path.{_≡_, sym, ap, _∙_}
 use native.Mathlib.Omega.{arith}

@@ -8,10 +8,13 @@ use Rattle.laws.specs.Remainder.{_%ℤ_}
 use Rattle.fine_delay.specs.declared.DelayByte.{DelayByte}
 use Rattle.fine_delay.specs.declared.DelaySetting.{DelaySetting}
 
--- "With n = K mod 15 and m = (K div 15 − n + 14) mod 16, the byte is 16n + m". The difference is an integer, negative
--- where n is the larger. `pos` makes a number an integer; `%ℤ` is the mathematical remainder.
+-- "With n = K mod 15 and m = (K div 15 − n + 14) mod 16, the byte is 16n + m". Document 02, Q-2: "The difference K div 15 − n can be
+-- negative; mind it." So it is an integer: `pos` makes an integer of a number, and `%ℤ` is the mathematical remainder.
 unfoldable pub byteOf : ℕ → ℕ
-byteOf k = 16 * (k % 15) + (pos (k / 15) -ℤ pos (k % 15) +ℤ pos 14) %ℤ 16
+byteOf k =
+    let n = k % 15 in
+    let m = (pos (k / 15) -ℤ pos n +ℤ pos 14) %ℤ 16 in
+    16 * n + m
 
 -- "back, K = (15m + 16n + 30) mod 240"
 unfoldable pub settingOf : ℕ → ℕ

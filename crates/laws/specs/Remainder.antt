@@ -17,6 +17,6 @@ BelowModulus = (z : ℤ) (modulus : ℕ) → 0 < modulus → z %ℤ modulus < mo
 abbrev pub MultipleAndRemainder : Type 0
 MultipleAndRemainder = (z : ℤ) (modulus : ℕ) → 0 < modulus → (q : ℤ) × (z ≡ q *ℤ pos modulus +ℤ pos (z %ℤ modulus))
 
--- no other number will do: the sum of a multiple of the modulus and a number r below it has the remainder r
+-- it is the only such number: the sum of a multiple of the modulus and a number r below it has the remainder r
 abbrev pub NoOtherRemainder : Type 0
 NoOtherRemainder = (q : ℤ) (modulus r : ℕ) → r < modulus → (q *ℤ pos modulus +ℤ pos r) %ℤ modulus ≡ r
