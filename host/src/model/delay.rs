@@ -1,52 +1,65 @@
-//! "Registers" of document 01, last paragraph: the settings of the fine delays.
+//! Fine delay settings and their bytes: document 01, section "Registers", last paragraph; its table
+//! "Numbers of refusal", 8 and 9; document 02, Q-2.
 //!
-//! Each way is found by a search with the formula of the other way, and is asserted to be what its
-//! own formula gives.
+//! The paper has one formula for each way. Here each answer is found by the formula of the other
+//! way: it is the only number 0..239 from which that formula leads to the argument. An argument to
+//! which none leads is refused. The formula of the answer's own way is a check: up to 239 it must
+//! give the number found, and over 239 none may be found. All this is done once for each way.
 
-use super::Refusal;
 use std::sync::LazyLock;
 
-/// "With n = K mod 15 and m = (K div 15 − n + 14) mod 16, the byte is 16n + m."
-fn byte_by_rule(setting: i32) -> i32 {
-    let n = setting.rem_euclid(15);
-    let m = (setting.div_euclid(15) - n + 14).rem_euclid(16);
-    16 * n + m
-}
+use super::Refusal;
 
-/// "Back, K = (15m + 16n + 30) mod 240."
-fn setting_by_rule(byte: i32) -> i32 {
-    let n = byte.div_euclid(16);
-    let m = byte.rem_euclid(16);
-    (15 * m + 16 * n + 30).rem_euclid(240)
-}
+/// "Fine delay settings K run 0..239". "Bytes 240..255 belong to no setting."
+const LAST: u8 = 239;
 
-/// For each number under 240 the only one under 240 that `back` takes to it.
-fn search(back: fn(i32) -> i32, there: fn(i32) -> i32) -> [u8; 240] {
-    std::array::from_fn(|place| {
-        let number = place as i32;
-        let found: Vec<i32> = (0..240).filter(|&other| back(other) == number).collect();
-        assert_eq!(found, [there(number)], "of {number}: none, several, or another one");
-        found[0] as u8
-    })
-}
+/// What each of the 256 arguments is answered; none where it is refused.
+type Answers = [Option<u8>; 256];
 
-/// The searches are done once, at the first call, and kept: the benchmark asks for millions of
-/// bytes, and a search takes 240 steps.
-static BYTES: LazyLock<[u8; 240]> = LazyLock::new(|| search(setting_by_rule, byte_by_rule));
-static SETTINGS: LazyLock<[u8; 240]> = LazyLock::new(|| search(byte_by_rule, setting_by_rule));
+static BYTES: LazyLock<Answers> = LazyLock::new(|| answers(setting_formula, byte_formula));
+static SETTINGS: LazyLock<Answers> = LazyLock::new(|| answers(byte_formula, setting_formula));
 
-/// The byte of a setting: the only one whose way back gives the setting. Refusal 8.
+/// The byte of a setting. Refusal 8: "setting over 239".
 pub fn delay_byte(setting: u8) -> Result<u8, Refusal> {
-    if setting > 239 {
-        return Err(Refusal::Setting);
-    }
-    Ok(BYTES[usize::from(setting)])
+    BYTES[usize::from(setting)].ok_or(Refusal::Setting)
 }
 
-/// The setting of a byte: the only one that has this byte by the rule. Refusal 9.
+/// The setting of a byte. Refusal 9: "byte over 239".
 pub fn delay_setting(byte: u8) -> Result<u8, Refusal> {
-    if byte > 239 {
-        return Err(Refusal::DelayByte);
+    SETTINGS[usize::from(byte)].ok_or(Refusal::DelayByte)
+}
+
+/// "With n = K mod 15 and m = (K div 15 − n + 14) mod 16, the byte is 16n + m".
+/// "The difference K div 15 − n can be negative; mind it."
+fn byte_formula(setting: u8) -> u8 {
+    let k = i32::from(setting);
+    let n = k.rem_euclid(15);
+    let m = (k.div_euclid(15) - n + 14).rem_euclid(16);
+    u8::try_from(16 * n + m).expect("n is under 15 and m under 16")
+}
+
+/// "back, K = (15m + 16n + 30) mod 240". As the byte is 16n + m, n is its high half and m its low.
+fn setting_formula(byte: u8) -> u8 {
+    let (n, m) = (i32::from(byte).div_euclid(16), i32::from(byte).rem_euclid(16));
+    u8::try_from((15 * m + 16 * n + 30).rem_euclid(240)).expect("a remainder is under 240")
+}
+
+/// All answers of one way, found by the formula `back` and checked by the formula `direct`.
+fn answers(back: fn(u8) -> u8, direct: fn(u8) -> u8) -> Answers {
+    let mut answers = [None; 256];
+    for argument in 0..=u8::MAX {
+        let found = only_source(back, argument);
+        let given = (argument <= LAST).then(|| direct(argument));
+        assert_eq!(found, given, "the two formulas do not agree on {argument}");
+        answers[usize::from(argument)] = found;
     }
-    Ok(SETTINGS[usize::from(byte)])
+    answers
+}
+
+/// The only number 0..239 from which the formula leads to the result, or none.
+fn only_source(formula: fn(u8) -> u8, result: u8) -> Option<u8> {
+    let mut sources = (0..=LAST).filter(|&number| formula(number) == result);
+    let first = sources.next();
+    assert_eq!(sources.next(), None, "two numbers lead to {result}");
+    first
 }

@@ -3,9 +3,9 @@
 //!
 //! It has its own ways. A received frame is decoded by a search for the nearest codeword. The bits
 //! of an unfinished frame are kept one by one in the order received, a running sequence as the two
-//! words of its event number, and of a Config byte only the bit that may change. The byte of a fine
-//! delay setting is found by the formula of the way back. It depends on nothing else of this
-//! package.
+//! words of its event number, and of a Config byte only the bit that may change. A fine delay byte
+//! is found by a search with the formula of the way back, a setting by one with the formula of the
+//! byte. It depends on nothing else of this package.
 
 pub mod block;
 mod delay;
