@@ -41,8 +41,8 @@ table! {
     // Frames and fine delays.
     Sent frames::check_bits_reversed, "frames" "examples":
         "the encoders send the check bits least significant first";
-    DelayByte frames::delay_remainder_truncated, "delays":
-        "m is the truncated remainder of K div 15 - n, and 14";
+    DelayByte frames::delay_difference_cut_off, "delays":
+        "a negative difference K div 15 - n counts as 0";
     DelaySetting frames::delay_byte_240_accepted, "delays":
         "byte 240 has a setting";
     Version frames::version_one_too_low, "interface":

@@ -115,9 +115,9 @@ pub fn version_one_too_low() -> u32 {
     VERSION - 1
 }
 
-pub fn delay_remainder_truncated(setting: u8) -> Byte {
+pub fn delay_difference_cut_off(setting: u8) -> Byte {
     let k = i32::from(setting);
-    let m = (k / 15 - k % 15) % 16 + 14;
+    let m = ((k / 15 - k % 15).max(0) + 14) % 16;
     match Model.delay_byte(setting) {
         Byte { refusal: 0, .. } => Byte { refusal: 0, byte: (16 * (k % 15) + m) as u8 },
         refused => refused,
