@@ -1,4 +1,5 @@
--- The rule of a byte in natural numbers: n is at most 14, so nothing is negative if the 14 is added first. Proved in proofs/Naturals.antt.
+-- Document 02, Q-2: "Answers, refusals and promises stay as they are." The byte of every number is that of the rule before, which added
+-- the 14 first: n is at most 14, so that nothing is negative. Proved in proofs/Naturals.antt.
 use Prim.Native.Nat.{ℕ, _+_, _-_, _*_, _/_, _%_}
 use mathlib.Core.Path.{_≡_}
 use Rattle.fine_delay.specs.Delay.{byteOf}

@@ -1,7 +1,7 @@
 //! An independent model of document 01, and of of document 02: frames, stored lines, fine
 //! delays, the receiver, blocks of clocks, and the program `ttclines`.
 //!
-//! It has its own ways. A received frame is decoded by a search for the nearest codeword. The bits
+//! It works differently. A received frame is decoded by a search for the nearest codeword. The bits
 //! of an unfinished frame are kept one by one in the order received, a running sequence as the two
 //! words of its event number, and of a Config byte only the bit that may change. A fine delay byte
 //! is found by a search with the formula of the way back, a setting by one with the formula of the

@@ -47,7 +47,9 @@ fn best_times(of_library: impl Fn() -> u64, of_model: impl Fn() -> u64) -> (f64,
 
 /// Measures, and prints the table.
 pub fn run() {
-    println!("Fine delays: ttcrx_delay_byte beside the model's, which has kept the bytes.\n");
+    println!(
+        "Fine delays: ttcrx_delay_byte beside the model's, which keeps the bytes it has found.\n"
+    );
     for number in 0..=255 {
         assert_eq!(library(number), plain(number), "the bytes of {number} differ");
     }
