@@ -37,7 +37,7 @@ extern "C" {
  * value, so a program must be compiled with the header of the archive that it is linked with:
  * compare TTCRX_VERSION with ttcrx_version() once, at the start.
  */
-#define TTCRX_VERSION 1
+#define TTCRX_VERSION 2
 
 /* The version of the archive. Refuses nothing. */
 uint32_t ttcrx_version(void);
@@ -69,6 +69,11 @@ uint32_t ttcrx_version(void);
  * were dropped, and each raised the double error counter, up to 255. A frame with verdict 1, 2, 4, 5
  * or 6 that was corrected raised the single error counter, up to 65535. RESET clears both, and so does
  * a write to their registers.
+ *
+ * After a finished frame with any other verdict than 7 the receiver waits for a start bit, and the next
+ * bit may be one. After verdict 7 it wants 41 ones in a row on channel B first: a 0 among them is no
+ * start bit, and the run begins again. After the 41st one it waits. No frame finishes meanwhile, and no
+ * error is counted; triggers, register accesses and the bunch and event counters work as always.
  */
 #define TTCRX_VERDICT_NONE 0              /* no frame finished on this clock */
 #define TTCRX_VERDICT_BROADCAST 1         /* short: data bit 0 clears the bunch, 1 the event counter */
@@ -77,7 +82,7 @@ uint32_t ttcrx_version(void);
 #define TTCRX_VERDICT_OUTSIDE 4           /* E = 1: the word was shown to the electronics outside */
 #define TTCRX_VERDICT_OTHER_ADDRESS 5     /* addressed to another receiver: no effect */
 #define TTCRX_VERDICT_OTHER_SUB_ADDRESS 6 /* a sub-address without a meaning: no effect */
-#define TTCRX_VERDICT_STOP_BIT 7          /* the stop bit was 0: dropped */
+#define TTCRX_VERDICT_STOP_BIT 7          /* the stop bit was 0: dropped; 41 ones are wanted then */
 #define TTCRX_VERDICT_UNCORRECTABLE 8     /* more bits were wrong than can be corrected: dropped */
 #define TTCRX_VERDICT_FIXED_BIT 9         /* long, fixed bit 0 after correction: dropped */
 
@@ -192,7 +197,7 @@ typedef struct ttcrx_sequence {
     uint32_t event; /* the kept event number, under 2^24; 0 with no words left */
 } ttcrx_sequence;
 
-/* All of a receiver but the frame bits that it holds. */
+/* All of a receiver but what it keeps of channel B. */
 typedef struct ttcrx_core {
     ttcrx_ids ids;
     ttcrx_settings settings;
@@ -201,12 +206,17 @@ typedef struct ttcrx_core {
     ttcrx_sequence sequence;
 } ttcrx_core;
 
-/* The bits of an unfinished frame. */
+/*
+ * What the receiver keeps of channel B: it waits for a start bit (all three are 0), wants ones after a
+ * frame with stop bit 0 (count and bits are 0), or holds the bits of an unfinished frame (ones_wanted
+ * is 0).
+ */
 typedef struct ttcrx_held {
-    uint8_t count; /* how many, 0 to 41; 0 while the receiver waits for a start bit */
-    uint64_t bits; /* as a number, the first received most significant. The first is 0, so it is
-                      under 2^(count - 1); from 16 bits on the second is 1, so it is 2^(count - 2) or
-                      more; 0 while the receiver waits */
+    uint8_t count;       /* how many frame bits are held, 0 to 41 */
+    uint8_t ones_wanted; /* the ones still wanted before a 0 counts as a start bit, 0 to 41 */
+    uint64_t bits;       /* the frame bits as a number, the first received most significant. The first
+                            is 0, so it is under 2^(count - 1); from 16 bits on the second is 1, so it
+                            is 2^(count - 2) or more; 0 with no bit held */
 } ttcrx_held;
 
 typedef struct ttcrx_receiver {
@@ -397,8 +407,10 @@ ttcrx_write_answer ttcrx_write(ttcrx_receiver receiver, uint8_t register_number,
  * answer is that of the last clock. Kind and number are as ttcrx_read_line answers them; test its
  * refusal first: a refused line has kind 0 and number 0, which is a short frame with stop bit 0.
  *
- * It is meant for a receiver that waits (held.count is 0). One that holds bits takes these as more bits
- * of that frame; a frame that so finishes on an earlier clock acts, and only the state shows it.
+ * It is meant for a receiver that waits (held.count and held.ones_wanted are 0). One that holds bits
+ * takes these as more bits of that frame; a frame that so finishes on an earlier clock acts, and only
+ * the state shows it. One that wants ones takes no frame: of the frame's bits only the ones at its end
+ * count, for the run. So after verdict 7 send 41 ones first, as one block of 41 bytes, each 2.
  *
  * Refusals, in this order: 2: a state that is not well formed; 12: a kind over 1, or a number that is
  * no frame of this kind, as for the decoders. The receiver is then the one given, no clock is done, and
@@ -450,7 +462,11 @@ ttcrx_report ttcrx_report_start(void);
  * space stands between them. The word is in capital hexadecimal digits, or '-' with verdicts 7 and 8;
  * all else is decimal. It has 2 digits in a line of 4 characters and 8 in one of 11, also if the
  * receiver given held bits of another frame, so that the line's last bit finishes that one, or none
- * (verdict 0); of a longer word these are the last digits.
+ * (verdict 0); of a longer word these are the last digits. A receiver that wants ones finishes none.
+ *
+ * Each line whose printed verdict is 7 is followed by 41 clocks with a 1 on channel B and no trigger,
+ * after which the receiver waits. They print nothing, and the bunch counter counts them. So a receiver
+ * that waits before the first line waits before each one.
  *
  * It works until the piece is used up or fewer than TTCRX_LONGEST_LINE bytes of the buffer are free.
  * If input is left, room_wanted is TTCRX_LONGEST_LINE, else 0: write out the text, and give the rest
@@ -463,10 +479,10 @@ ttcrx_reported ttcrx_report_input(ttcrx_report report, const char *input, size_t
 
 /*
  * At the end of the input: reports a last line without line feed, if it has any character, as
- * ttcrx_report_input does; then writes the line "end", single errors, double errors, event count and
- * bunch count of the receiver; room_wanted is 0. With a buffer of under TTCRX_LONGEST_END bytes,
- * however short the text would be, nothing is written, the report stays, and room_wanted is
- * TTCRX_LONGEST_END. Uses no input.
+ * ttcrx_report_input does, with the 41 ones after verdict 7; then writes the line "end", single errors,
+ * double errors, event count and bunch count of the receiver; room_wanted is 0. With a buffer of under
+ * TTCRX_LONGEST_END bytes, however short the text would be, nothing is written, the report stays, and
+ * room_wanted is TTCRX_LONGEST_END. Uses no input.
  */
 ttcrx_reported ttcrx_report_end(ttcrx_report report, char *buffer, size_t buffer_length);
 

@@ -108,6 +108,33 @@ static void check_frames_in_blocks(void)
     CHECK(only_records(1) && same_state(receiver, fresh_5));
 }
 
+/* A bad stop bit, ones, and the broadcast of 01: it has a record after 41 ones, and none after 40.
+   Cut within the ones, so that the second block begins with a receiver that wants 31. */
+static void check_ones_in_blocks(void)
+{
+    ttcrx_receiver receiver = fresh_5;
+    put_frame(block, 16, BAD_STOP);
+    put_frame(block + 16, 40, ONES_40);
+    put_frame(block + 56, 16, BROADCAST_01);
+    unwrite();
+    CHECK(outcome_is(run(&receiver, 72), TTCRX_ACCEPTED, 1));
+    CHECK(record_is(&records[0], 15, 15, 0, TTCRX_VERDICT_STOP_BIT, 0));
+    CHECK(held_is(receiver, 0, 37, 0) && counters_are(receiver, 72, 0));
+    receiver = fresh_5;
+    put_frame(block + 16, 41, ONES_41);
+    put_frame(block + 57, 16, BROADCAST_01);
+    CHECK(outcome_is(run(&receiver, 26), TTCRX_ACCEPTED, 1) && held_is(receiver, 0, 31, 0));
+    memmove(block, block + 26, 47);
+    block[0] |= 1; /* a trigger among the ones */
+    CHECK(outcome_is(run(&receiver, 47), TTCRX_ACCEPTED, 2));
+    CHECK(record_is(&records[0], 0, 26, 0, TTCRX_CODE_TRIGGER, 0));
+    CHECK(record_is(&records[1], 46, 72, 1, TTCRX_VERDICT_BROADCAST, 0x01));
+    CHECK(only_records(2) && held_is(receiver, 0, 0, 0) && counters_are(receiver, 0, 1));
+    receiver = keeping(0, 2);
+    put_frame(block, 2, 2); /* a one, and a 0 that is no start bit */
+    CHECK(outcome_is(run(&receiver, 2), TTCRX_ACCEPTED, 0) && held_is(receiver, 0, 41, 0));
+}
+
 /* The longest block, with a record for every clock. */
 static void check_full_block(void)
 {
@@ -144,6 +171,8 @@ static void check_refused_blocks(void)
     memset(block, IDLE_TRIGGER, sizeof block);
     block[2] = 4;
     CHECK(refused_by(TTCRX_REFUSED_STATE, ill_formed, MOST, 0));
+    CHECK(refused_by(TTCRX_REFUSED_STATE, keeping(0, 42), MOST, 0));
+    CHECK(refused_by(TTCRX_REFUSED_STATE, keeping(1, 1), MOST, 0));
     CHECK(refused_by(TTCRX_REFUSED_BLOCK_LENGTH, fresh_5, MOST, 0));
     CHECK(refused_by(TTCRX_REFUSED_RECORD_BUFFER, fresh_5, 3, NUMBERS(3) - 1));
     CHECK(refused_by(TTCRX_REFUSED_BIT, fresh_5, 3, NUMBERS(3)));
@@ -179,6 +208,7 @@ static void check_blocks(void)
 {
     check_triggers_in_blocks();
     check_frames_in_blocks();
+    check_ones_in_blocks();
     check_full_block();
     check_refused_blocks();
     check_empty_blocks();

@@ -27,16 +27,23 @@ static void check(int holds, const char *what, const char *file, int line)
 
 #define CHECK(holds) check((holds), #holds, __FILE__, __LINE__)
 
-/* Frames of document 01: data 35 for register 2 of ID 5, and RESET of ID 5. */
+/* Frames of document 01: data 35 for register 2 of ID 5, and RESET of ID 5; the broadcast of 01, and
+   the same with stop bit 0. */
 #define WRITE_35 UINT64_C(0x100150235AD)
 #define WRITE_35_WORD 0x00150235
 #define RESET_5 UINT64_C(0x100150600F3)
 #define RESET_5_WORD 0x00150600
+#define BROADCAST_01 0x004F
+#define BAD_STOP 0x004E
+
+/* So many ones as a number: the ones that a receiver wants after a bad stop bit, and one fewer. */
+#define ONES_41 UINT64_C(0x1FFFFFFFFFF)
+#define ONES_40 UINT64_C(0x0FFFFFFFFFF)
 
 /* The fresh state of ID 5 and I2C ID 5, and one that is not well formed. They lie in memory that cannot
    be written. */
 #define STATE_5(status5) \
-    {{{5, 5}, {0, 0, 0, 0x93, 0x85, 0xA7}, {0, 0, status5}, {0, 0}, {0, 0}}, {0, 0}}
+    {{{5, 5}, {0, 0, 0, 0x93, 0x85, 0xA7}, {0, 0, status5}, {0, 0}, {0, 0}}, {0, 0, 0}}
 static const ttcrx_receiver fresh_5 = STATE_5(1);
 static const ttcrx_receiver ill_formed = STATE_5(2);
 
@@ -60,10 +67,25 @@ static int same_core(ttcrx_core one, ttcrx_core other)
            one.sequence.event == other.sequence.event;
 }
 
+static int held_is(ttcrx_receiver receiver, uint8_t count, uint8_t ones_wanted, uint64_t bits)
+{
+    return receiver.held.count == count && receiver.held.ones_wanted == ones_wanted &&
+           receiver.held.bits == bits;
+}
+
 static int same_state(ttcrx_receiver one, ttcrx_receiver other)
 {
-    return same_core(one.core, other.core) && one.held.count == other.held.count &&
-           one.held.bits == other.held.bits;
+    return same_core(one.core, other.core) &&
+           held_is(one, other.held.count, other.held.ones_wanted, other.held.bits);
+}
+
+/* The fresh state, but it holds so many frame bits, all 0, and wants so many ones. */
+static ttcrx_receiver keeping(uint8_t count, uint8_t ones_wanted)
+{
+    ttcrx_receiver receiver = fresh_5;
+    receiver.held.count = count;
+    receiver.held.ones_wanted = ones_wanted;
+    return receiver;
 }
 
 static int counters_are(ttcrx_receiver receiver, uint16_t bunch, uint32_t event)

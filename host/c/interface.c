@@ -139,6 +139,46 @@ static void check_clocks(void)
     CHECK(same_state(whole.receiver, fresh_5));
 }
 
+/* After a bad stop bit 40 ones are not enough: a 0 is then no start bit, and 41 ones are wanted again.
+   After 41 ones a frame is received. No other verdict wants ones. */
+static void check_ones_wanted(void)
+{
+    const ttcrx_clock_answer slipped = send_bits(fresh_5, 16, BAD_STOP);
+    const ttcrx_clock_answer nearly = send_bits(slipped.receiver, 40, ONES_40);
+    const ttcrx_clock_answer again = send_bits(nearly.receiver, 1, 0);
+    const ttcrx_clock_answer waiting = send_bits(again.receiver, 41, ONES_41);
+    const ttcrx_clock_answer start = send_bits(waiting.receiver, 1, 0);
+    const ttcrx_clock_answer frame = send_bits(start.receiver, 15, BROADCAST_01);
+    const ttcrx_clock_answer uncorrectable = send_bits(fresh_5, 16, 0x0039);
+    CHECK(received(slipped, TTCRX_VERDICT_STOP_BIT, 0, 0) && held_is(slipped.receiver, 0, 41, 0));
+    CHECK(received(nearly, TTCRX_VERDICT_NONE, 0, 0) && held_is(nearly.receiver, 0, 1, 0));
+    CHECK(received(again, TTCRX_VERDICT_NONE, 0, 0) && held_is(again.receiver, 0, 41, 0));
+    CHECK(received(waiting, TTCRX_VERDICT_NONE, 0, 0) && held_is(waiting.receiver, 0, 0, 0));
+    CHECK(received(start, TTCRX_VERDICT_NONE, 0, 0) && held_is(start.receiver, 1, 0, 0));
+    CHECK(counters_are(start.receiver, 16 + 40 + 1 + 41 + 1, 0));
+    CHECK(received(frame, TTCRX_VERDICT_BROADCAST, 0, 0x01));
+    CHECK(received(uncorrectable, TTCRX_VERDICT_UNCORRECTABLE, 0, 0));
+    CHECK(held_is(uncorrectable.receiver, 0, 0, 0));
+}
+
+/* What is well formed: up to 41 ones wanted, and none beside a held bit. Writes leave the run. */
+static void check_states_that_want_ones(void)
+{
+    const ttcrx_receiver states[2] = {keeping(0, 42), keeping(1, 1)};
+    size_t i;
+    CHECK(ttcrx_well_formed(keeping(0, 41)) == 1 && ttcrx_well_formed(keeping(1, 0)) == 1);
+    CHECK(ttcrx_write(keeping(0, 17), 11, 0).refusal == TTCRX_ACCEPTED);
+    CHECK(same_state(ttcrx_write(keeping(0, 17), 11, 0).receiver, keeping(0, 17)));
+    for (i = 0; i < 2; i++) {
+        const ttcrx_write_answer write = ttcrx_write(states[i], 4, 0);
+        CHECK(ttcrx_well_formed(states[i]) == 0);
+        CHECK(clock_refused(ttcrx_clock(states[i], 2, 2), TTCRX_REFUSED_STATE, states[i]));
+        CHECK(ttcrx_read(states[i], 4).refusal == TTCRX_REFUSED_STATE);
+        CHECK(write.refusal == TTCRX_REFUSED_STATE && same_state(write.receiver, states[i]));
+        CHECK(clock_refused(ttcrx_receive(states[i], 2, 0), TTCRX_REFUSED_STATE, states[i]));
+    }
+}
+
 static void check_refused_clocks(void)
 {
     CHECK(clock_refused(ttcrx_clock(ill_formed, 2, 2), TTCRX_REFUSED_STATE, ill_formed));
@@ -180,10 +220,14 @@ static void check_whole_frames(void)
     const ttcrx_clock_answer stored = ttcrx_receive_long(corrected.receiver, WRITE_35);
     const ttcrx_clock_answer part = send_bits(fresh_5, 26, WRITE_35 >> 16);
     const ttcrx_clock_answer rest = ttcrx_receive(part.receiver, TTCRX_SHORT, WRITE_35 & 0xFFFF);
+    const ttcrx_clock_answer quiet = ttcrx_receive_short(keeping(0, 1), BROADCAST_01);
+    const ttcrx_clock_answer by_kind = ttcrx_receive(keeping(0, 1), TTCRX_LONG, WRITE_35);
     CHECK(received(corrected, TTCRX_VERDICT_BROADCAST, 1, 0x02));
     CHECK(received(stored, TTCRX_VERDICT_STORED, 0, WRITE_35_WORD));
     CHECK(counters_are(stored.receiver, 16 + 42, 0));
     CHECK(received(rest, TTCRX_VERDICT_STORED, 0, WRITE_35_WORD));
+    CHECK(received(quiet, TTCRX_VERDICT_NONE, 0, 0) && held_is(quiet.receiver, 0, 37, 0));
+    CHECK(received(by_kind, TTCRX_VERDICT_NONE, 0, 0) && held_is(by_kind.receiver, 0, 40, 0));
     CHECK(received(ttcrx_receive(fresh_5, TTCRX_LONG, RESET_5), TTCRX_VERDICT_RESET, 0,
                    RESET_5_WORD));
     CHECK(clock_refused(ttcrx_receive(ill_formed, 2, 0), TTCRX_REFUSED_STATE, ill_formed));
@@ -201,6 +245,8 @@ int main(void)
     check_delays();
     check_fresh();
     check_clocks();
+    check_ones_wanted();
+    check_states_that_want_ones();
     check_refused_clocks();
     check_registers();
     check_whole_frames();

@@ -30,7 +30,7 @@ SIZE(counters, 8); AT(counters, 0, bunch); AT(counters, 4, event);
 SIZE(sequence, 8); AT(sequence, 0, left); AT(sequence, 4, event);
 SIZE(core, 32); AT(core, 0, ids); AT(core, 4, settings); AT(core, 10, errors);
     AT(core, 16, counters); AT(core, 24, sequence);
-SIZE(held, 16); AT(held, 0, count); AT(held, 8, bits);
+SIZE(held, 16); AT(held, 0, count); AT(held, 1, ones_wanted); AT(held, 8, bits);
 SIZE(receiver, 48); AT(receiver, 0, core); AT(receiver, 32, held);
 SIZE(fresh_answer, 56); AT(fresh_answer, 0, refusal); AT(fresh_answer, 8, receiver);
 SIZE(outputs, 12); AT(outputs, 0, trigger); AT(outputs, 1, missed); AT(outputs, 2, strobe);

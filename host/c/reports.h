@@ -71,7 +71,7 @@ static const char example[] =
 #define EXAMPLE_LINES                                                                              \
     "1 1 0 01\n2 1 1 02\n3 7 0 -\n4 8 0 -\n"                                                       \
     "5 2 0 00150235\n6 2 1 00150235\n7 5 0 00190235\n8 ! 12\n"
-#define EXAMPLE_END "end 2 2 0 174\n"
+#define EXAMPLE_END "end 2 2 0 215\n"
 
 static void check_example(void)
 {
@@ -148,9 +148,38 @@ static void check_other_receivers(void)
     CHECK(text_is(&on, "1 2 0 00190235\n2 2 0 35\n"));
 }
 
+/* 41 ones after a line with verdict 7, the last one too: with the line, not with the next. */
+static void check_ones_after_lines(void)
+{
+    reporting on = begin();
+    input(&on, "004E\n", ROOM, 5, 0);
+    CHECK(held_is(on.report.receiver, 0, 0, 0) && counters_are(on.report.receiver, 57, 0));
+    input(&on, "004E\n304F\n0001\n004E", ROOM, 19, 0);
+    end(&on, TTCRX_LONGEST_END, 0);
+    CHECK(text_is(&on, "1 7 0 -\n2 7 0 -\n3 8 0 -\n4 1 0 00\n5 7 0 -\nend 0 4 0 203\n"));
+    CHECK(held_is(on.report.receiver, 0, 0, 0));
+}
+
+/* A receiver that wants ones takes no frame of a line; no ones are sent for verdict 0. */
+static void check_receivers_that_want_ones(void)
+{
+    reporting on = begin();
+    on.report.receiver = keeping(0, 1);
+    input(&on, "004E\n004F\n", ROOM, 10, 0);
+    CHECK(held_is(on.report.receiver, 0, 37, 0) && counters_are(on.report.receiver, 32, 0));
+    input(&on, "1FFFFFFFFFF\n004F\n", ROOM, 17, 0);
+    CHECK(text_is(&on, "1 0 0 00\n2 0 0 00\n3 0 0 00000000\n4 1 0 01\n"));
+    on = begin();
+    on.report.receiver = keeping(1, 1);
+    input(&on, "004F\n", ROOM, 5, 0);
+    CHECK(text_is(&on, "1 ! 2\n") && same_state(on.report.receiver, keeping(1, 1)));
+}
+
 static void check_reports(void)
 {
     check_example();
+    check_ones_after_lines();
+    check_receivers_that_want_ones();
     check_input_room();
     check_last_line();
     check_empty_input();

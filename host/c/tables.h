@@ -71,7 +71,7 @@ static void check_all_registers(void)
                                    {0x7665, 0x87, 0},
                                    {0x0FDE, 0xE54321},
                                    {0, 0}},
-                                  {0, 0}};
+                                  {0, 0, 0}};
     size_t next = 0;
     for (int number = 0; number < 256; number++) {
         const ttcrx_read_answer answer = ttcrx_read(state, (uint8_t)number);
@@ -128,7 +128,7 @@ static void check_report_byte_by_byte(void)
 {
     static const char lines[] = "004F\n2097\n004E\n304F\n100150235AD\n180150235AD\n100190235B5\n4001\n";
     static const char output[] = "1 1 0 01\n2 1 1 02\n3 7 0 -\n4 8 0 -\n5 2 0 00150235\n"
-                                 "6 2 1 00150235\n7 5 0 00190235\n8 ! 12\nend 2 2 0 174\n";
+                                 "6 2 1 00150235\n7 5 0 00190235\n8 ! 12\nend 2 2 0 215\n";
     char text[256];
     size_t at = 0;
     ttcrx_report report = ttcrx_report_start();

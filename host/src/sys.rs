@@ -3,7 +3,7 @@
 
 use core::mem::{align_of, offset_of, size_of};
 
-pub const VERSION: u32 = 1;
+pub const VERSION: u32 = 2;
 
 pub const ACCEPTED: u8 = 0;
 pub const REFUSED_BIT: u8 = 1;
@@ -177,6 +177,7 @@ layouts! {
     /// `ttcrx_held`
     Held: 16, 8 {
         0 count: u8,
+        1 ones_wanted: u8,
         8 bits: u64,
     }
 

@@ -5,6 +5,7 @@ use ttcrx_host::model::Kind;
 use ttcrx_host::sys::{Counters, Decoded, Fields, Outputs};
 use ttcrx_host::sys::{STROBE_EVENT_HIGH, VERDICT_NONE, VERDICT_STOP_BIT, VERDICT_UNCORRECTABLE};
 use ttcrx_host::testing::compare::Both;
+use ttcrx_host::testing::frame::{send, Frame, RUN};
 use ttcrx_host::testing::library::{Library, Model, Proved};
 use ttcrx_host::testing::{example, verdict};
 
@@ -51,7 +52,8 @@ fn lines_decoded() {
     both.at_least(2 * 7);
 }
 
-/// The program's lines by single clocks. Each frame finishes on its last clock and not before.
+/// The program's lines by single clocks. Each frame finishes on its last clock and not before; the
+/// one with verdict 7 is followed by 41 ones.
 #[test]
 fn lines_by_single_clocks() {
     let both = Both::of("clocks of the program's lines");
@@ -70,12 +72,15 @@ fn lines_by_single_clocks() {
         };
         let shown = format!("{} {} {word}", last.verdict, last.corrected);
         both.same(line, shown.as_str(), said);
+        if last.verdict == VERDICT_STOP_BIT {
+            state = send(&both, state, Frame::ones(RUN)).receiver;
+        }
     }
     let (errors, counters) = (state.core.errors, state.core.counters);
     let (single, double) = (errors.single_errors, errors.double_errors);
     let end = format!("end {single} {double} {} {}", counters.event, counters.bunch);
     both.same("end", end.as_str(), example::END);
-    both.at_least(2 * 174 + 7 + 2);
+    both.at_least(2 * 174 + 41 + 7 + 2);
 }
 
 /// "Triggers on clocks 1, 2 and 4 from fresh", and the two clocks after those of the example: the

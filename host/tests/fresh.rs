@@ -79,5 +79,5 @@ fn edges_of_well_formed() {
             both.same(edge, answer, edge.good.into());
         }
     }
-    both.at_least(10 * 2 * (25 + 2 * 256 + 8 * 256 + 256 * (1 + 64 * 3)));
+    both.at_least(10 * 2 * edges::STATES);
 }

@@ -1,5 +1,5 @@
-//! Compares no entry point: the model alone, with the rules of document 01. It is compiled here
-//! from its own folder, which shows that it depends on nothing else of the package.
+//! Compares no entry point: the model alone, with the rules of documents 01 and 02. It is compiled
+//! here from its own folder, which shows that it depends on nothing else of the package.
 
 #[allow(dead_code, unused_imports)]
 #[path = "../src/model/mod.rs"]
@@ -154,6 +154,91 @@ fn status_bit_5() {
     for (number, after) in [(0x004E, 0), (0x304F, 1), (0x004E, 0), (0x004F, 1)] {
         send(&mut receiver, Kind::Short, number);
         assert_eq!(receiver.state().status5, after);
+        receiver.idle(41);
+        assert_eq!(receiver.state().status5, after);
+    }
+}
+
+/// Bits held, and ones wanted.
+fn kept(receiver: &Receiver) -> (u8, u8) {
+    let state = receiver.state();
+    (state.held, state.ones_wanted)
+}
+
+/// each one is wanted no more; a 0 at any place begins the run again; the bit after the 41st
+/// one may be a start bit.
+#[test]
+fn quiet_after_a_bad_stop() {
+    for ones in 0..41 {
+        let mut receiver = fresh();
+        let shown = send(&mut receiver, Kind::Short, 0x004E);
+        assert_eq!((shown.fate.verdict, kept(&receiver)), (Verdict::StopBit, (0, 41)));
+        receiver.idle(ones);
+        assert_eq!(kept(&receiver), (0, 41 - ones));
+        assert_eq!(receiver.clock(false, false).fate, Fate::default());
+        assert_eq!(kept(&receiver), (0, 41));
+        receiver.idle(41);
+        assert_eq!(kept(&receiver), (0, 0));
+        receiver.clock(false, false);
+        assert_eq!(kept(&receiver), (1, 0));
+        assert_eq!(receiver.bunch(), 16 + u16::from(ones) + 1 + 41 + 1);
+    }
+}
+
+/// the tail of a frame after a slipped bit makes no more frames.
+#[test]
+fn a_slipped_bit() {
+    let mut receiver = fresh();
+    let shown = send(&mut receiver, Kind::Short, 0x0000);
+    assert_eq!(shown.fate.verdict, Verdict::StopBit);
+    for _ in 0..3 {
+        let shown = send(&mut receiver, Kind::Short, 0x004F);
+        assert_eq!(shown.fate.verdict, Verdict::None);
+        assert_eq!(kept(&receiver), (0, 41 - 4));
+    }
+    assert_eq!(receiver.state().double_errors, 1);
+}
+
+/// Q-1 speaks of verdict 7 alone. After 8 and 9 the next bit may be a start bit.
+#[test]
+fn no_quiet_after_other_verdicts() {
+    let frames = [
+        (Kind::Short, 0x304F, Verdict::Uncorrectable),
+        (Kind::Long, 1 << 40 | 1, Verdict::FixedBit),
+    ];
+    for (kind, number, verdict) in frames {
+        let mut receiver = fresh();
+        assert_eq!(send(&mut receiver, kind, number).fate.verdict, verdict);
+        assert_eq!(kept(&receiver), (0, 0));
+        receiver.clock(false, false);
+        assert_eq!(kept(&receiver), (1, 0));
+    }
+}
+
+/// "over 41, or over 0 beside held frame bits, is not well formed".
+#[test]
+fn ones_wanted_of_a_state() {
+    for ones_wanted in 0..=255 {
+        let state = |held| State { ones_wanted, held, ..fresh().state() };
+        let receiver = Receiver::from_state(&state(0));
+        let kept = receiver.map(|receiver| receiver.state());
+        assert_eq!(kept, (ones_wanted <= 41).then_some(state(0)));
+        let held = Receiver::from_state(&state(1));
+        assert_eq!(held.is_some(), ones_wanted == 0);
+    }
+}
+
+/// "`ttclines` now sends 41 ones after each line with verdict 7", the last one too.
+#[test]
+fn lines_with_verdict_7() {
+    for (input, output) in [
+        ("004E\n", "1 7 0 -\nend 0 1 0 57\n"),
+        ("004E", "1 7 0 -\nend 0 1 0 57\n"),
+        ("004E\n004E\n0001", "1 7 0 -\n2 7 0 -\n3 1 0 00\nend 0 2 0 130\n"),
+        ("304F\n", "1 8 0 -\nend 0 1 0 16\n"),
+    ] {
+        let said = model::report::whole_output(input.as_bytes());
+        assert_eq!(String::from_utf8_lossy(&said), output);
     }
 }
 

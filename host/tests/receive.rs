@@ -6,7 +6,7 @@ use ttcrx_host::sys::*;
 use ttcrx_host::testing::compare::Both;
 use ttcrx_host::testing::convert::refused_clock;
 use ttcrx_host::testing::coverage::{assert_seen, Tally};
-use ttcrx_host::testing::frame::send;
+use ttcrx_host::testing::frame::{send, wanting, Frame, RUN};
 use ttcrx_host::testing::library::{Library, Proved};
 use ttcrx_host::testing::lines::{any_frame, EVERY_KIND};
 use ttcrx_host::testing::random::Random;
@@ -46,12 +46,23 @@ fn receive(both: &Both, state: Receiver, kind: u8, number: u64) -> ClockAnswer {
     answer
 }
 
+/// What a receiver keeps of channel B: it waits, holds bits, or wants ones.
+const KEEPS: (&str, u8, u8) = ("receiver (waits, holds bits, wants ones)", 0, 2);
+
+fn keeps(state: &Receiver) -> u8 {
+    match (state.held.count, state.held.ones_wanted) {
+        (0, 0) => 0,
+        (_, 0) => 1,
+        _ => 2,
+    }
+}
+
 /// Frames of every fate, at receivers that wait and at others, with and without a running sequence.
 #[test]
 fn well_formed_states() {
     let both = Both::of("whole frames from well-formed states");
     let mut random = Random::new(300);
-    let mut seen = Tally::of([("long", 0, 1), ("waiting", 0, 1), ("words left", 0, 2)]);
+    let mut seen = Tally::of([("long", 0, 1), KEEPS, ("words left", 0, 2)]);
     let mut verdicts = Tally::of([verdict::ANY]);
     for _ in 0..100_000 {
         let mut state = states::well_formed(&mut random);
@@ -62,8 +73,7 @@ fn well_formed_states() {
         let kind = frame.kind().number();
         let answer = receive(&both, state, kind, frame.number);
         both.same((state, frame), answer, send(&Proved, state, frame));
-        let waiting = (state.held.count == 0).into();
-        seen.seen([kind, waiting, state.core.sequence.left]);
+        seen.seen([kind, keeps(&state), state.core.sequence.left]);
         verdicts.seen([answer.outputs.verdict]);
     }
     assert_seen(&[&seen, &verdicts]);
@@ -85,24 +95,117 @@ fn every_number_of_held_bits() {
     both.at_least(4 * 56 * 200);
 }
 
-/// Frames one after the other, as they are read from lines; the state is the library's own.
+/// "One that wants ones takes no frame: of the frame's bits only the ones at its end count, for the
+/// run." All else is as with so many idle clocks.
+#[track_caller]
+fn takes_no_frame(both: &Both, state: Receiver, frame: Frame) {
+    let answer = receive(both, state, frame.kind().number(), frame.number);
+    let idle = send(&Proved, state, Frame::ones(frame.length));
+    let input = (state, frame);
+    both.same(input, answer.outputs, idle.outputs);
+    both.same(input, answer.outputs.verdict, VERDICT_NONE);
+    both.same(input, answer.receiver.core, idle.receiver.core);
+    let ones = frame.number.trailing_ones() as u8;
+    both.same(input, answer.receiver.held, wanting(RUN - ones));
+    both.same(input, answer, send(&Proved, state, frame));
+}
+
+/// Every number of ones wanted, before frames of every fate.
+#[test]
+fn every_number_of_ones_wanted() {
+    let both = Both::of("whole frames with every number of ones wanted");
+    let mut random = Random::new(307);
+    let mut seen = Tally::of([("long", 0, 1), ("ones wanted", 1, RUN), ("stop bit", 0, 1)]);
+    for ones_wanted in (1..=RUN).flat_map(|wanted| [wanted; 200]) {
+        let state = states::quiet(&mut random, ones_wanted);
+        let frame = traffic::frame(&mut random, state.core.ids.id);
+        takes_no_frame(&both, state, frame);
+        let stop = (!frame.stops_badly()).into();
+        seen.seen([frame.kind().number(), ones_wanted, stop]);
+    }
+    assert_seen(&[&seen]);
+    both.at_least(9 * 41 * 200);
+}
+
+/// Every number of ones at the end of a frame. The longest run is that of a start bit and 41 ones:
+/// after it the receiver waits.
+#[test]
+fn ones_at_the_end_of_a_frame() {
+    let both = Both::of("whole frames that end with every number of ones");
+    let mut random = Random::new(308);
+    for ones_wanted in 1..=RUN {
+        for ones in 0..=RUN {
+            let long = Frame::of(Kind::Long, 1 << 40 | Frame::ones(ones).number);
+            takes_no_frame(&both, states::quiet(&mut random, ones_wanted), long);
+        }
+        for ones in 0..=14 {
+            let short = Frame::of(Kind::Short, Frame::ones(ones).number);
+            takes_no_frame(&both, states::quiet(&mut random, ones_wanted), short);
+        }
+    }
+    let stray_zero = Frame::of(Kind::Long, (1 << 41) - 1);
+    let waits = ttcrx::receive_long(states::quiet(&mut random, RUN), stray_zero.number);
+    both.same(stray_zero, waits.receiver.held, Held::default());
+    both.at_least(41 * (42 + 15) * 9);
+}
+
+/// What was sent in long runs.
+struct Sent {
+    verdicts: Tally<1>,
+    waited: Tally<1>,
+    runs: Tally<1>,
+}
+
+/// A frame, as it is read from a line. It finishes on a receiver that waits, and not on one that
+/// wants ones.
+fn next_frame(both: &Both, random: &mut Random, sent: &mut Sent, state: Receiver) -> Receiver {
+    let frame = any_frame(random, &EVERY_KIND);
+    let digits = frame.kind().digits();
+    let line = both.read_line(format!("{:0digits$X}", frame.number).as_bytes());
+    let answer = receive(both, state, line.kind, line.number);
+    both.same((state, frame), answer, send(&Proved, state, frame));
+    let verdict = answer.outputs.verdict;
+    let waited = state.held == Held::default();
+    both.same((state, frame), verdict::is_finished(verdict), waited);
+    let waits = waited && verdict != VERDICT_STOP_BIT;
+    both.same((state, frame), answer.receiver.held == Held::default(), waits);
+    sent.verdicts.seen([verdict]);
+    sent.waited.seen([waited.into()]);
+    answer.receiver
+}
+
+/// Ones after a frame that leaves the receiver wanting them: mostly 41, else fewer or more.
+fn next_run(both: &Both, random: &mut Random, sent: &mut Sent, state: Receiver) -> Receiver {
+    let fewer = random.below(RUN.into()) as u8;
+    let more = RUN + 1 + fewer / 2;
+    let ones = random.pick(&[RUN, RUN, RUN, RUN, RUN - 1, fewer, more]);
+    let wanted = state.held.ones_wanted.saturating_sub(ones);
+    let after = send(both, state, Frame::ones(ones)).receiver;
+    both.same((state, ones), after.held, wanting(wanted));
+    sent.runs.seen([u8::from(ones >= RUN) + u8::from(ones > RUN)]);
+    after
+}
+
+/// Frames one after the other; the state is the library's own.
 #[test]
 fn long_runs() {
     let both = Both::of("whole frames in long runs");
     let mut random = Random::new(302);
+    let mut sent = Sent {
+        verdicts: Tally::of([verdict::ANY]),
+        waited: Tally::of([("a frame on a receiver that waits", 0, 1)]),
+        runs: Tally::of([("run of ones (fewer than 41, 41, more)", 0, 2)]),
+    };
     for _ in 0..20 {
         let mut state = ttcrx::fresh(5, 5).receiver;
         for _ in 0..5_000 {
-            let frame = any_frame(&mut random, &EVERY_KIND);
-            let digits = frame.kind().digits();
-            let line = both.read_line(format!("{:0digits$X}", frame.number).as_bytes());
-            let answer = receive(&both, state, line.kind, line.number);
-            both.same((state, frame), answer, send(&Proved, state, frame));
-            both.same((state, frame), answer.receiver.held, Held::default());
-            assert!(verdict::is_finished(answer.outputs.verdict));
-            state = answer.receiver;
+            state = next_frame(&both, &mut random, &mut sent, state);
+            if state.held.ones_wanted > 0 {
+                state = next_run(&both, &mut random, &mut sent, state);
+            }
         }
     }
+    assert_seen(&[&sent.verdicts, &sent.waited, &sent.runs]);
     both.at_least(7 * 20 * 5_000);
 }
 
@@ -199,5 +302,5 @@ fn edges_of_well_formed() {
             both.same(edge, answer.refusal != REFUSED_STATE, edge.good);
         }
     }
-    both.at_least((25 + 512 + 2_048 + 49_408) * 6 * 3);
+    both.at_least(edges::STATES * 6 * 3);
 }

@@ -1,4 +1,4 @@
--- One bit keeps the bits held well formed, and a finished frame is one. Assumes nothing.
+-- One bit keeps what is held well formed, and a finished frame is one. Assumes nothing.
 use mathlib.Core.Path.{_≡_, refl}
 use mathlib.Core.Logic.{_≢_, _⊎_, inl, inr, ⊎-elim}
 use mathlib.Core.Bool.{Bool, true, false, _&&_}
@@ -8,16 +8,17 @@ use native.Mathlib.Omega.{arith}
 use borrow.Author.Tests.{eq-eqb, eqb-true, eqb-false, ltb-true, ltb-false}
 use lib.Dec.{eqb, ltb}
 use lib.Pow.{pow-add, pow-mono}
-use Rattle.laws.proofs.Rules.{picked-by}
+use Rattle.laws.proofs.Rules.{picked, picked-by}
 use Rattle.laws.proofs.Tests.{both}
 use Rattle.frame.specs.declared.Kind.the-variants.{Short, Long}
 use Rattle.frame.specs.Numbers.{frameBits, isFrame}
 use Rattle.receiver_state.specs.declared.Held.{Held}
-use Rattle.receiver_state.specs.State.{holding, isWaiting}
+use Rattle.receiver_state.specs.State.{holding}
 use Rattle.receiver_state.specs.WellFormed.{HeldFacts}
+use Rattle.receiver_state.proofs.HeldBits.{wanting-facts}
 use Rattle.channel_b.specs.declared.Taken.{Taken}
 use Rattle.channel_b.specs.declared.Taken.the-variants.{Unfinished, Finished}
-use Rattle.channel_b.specs.TakeBit.{frameOrPart, takeBit}
+use Rattle.channel_b.specs.TakeBit.{frameOrPart, betweenFrames, takeBit}
 
 abbrev pub TakenFacts : Taken → Type 0
 TakenFacts (Unfinished held) = HeldFacts held
@@ -47,7 +48,13 @@ no-short n v e f =
 
 unfinished : (n v : ℕ) → n ≢ frameBits Long → (eqb n (frameBits Short) && isFrame Short v) ≡ false → Grown n v → HeldFacts (holding n v)
 unfinished n v e f g =
-    record { few = omega (arith, g .few, e); start = g .start; format = by-count (ltb n (frameBits Short)) refl }
+    record {
+      few = omega (arith, g .few, e);
+      start = g .start;
+      format = by-count (ltb n (frameBits Short)) refl;
+      few-wanted = omega arith;
+      none-beside = inr refl;
+    }
   where
     by-count : (t : Bool) → ltb n (frameBits Short) ≡ t → (n < frameBits Short) ⊎ (2 ^ n ≤ v * 4)
     by-count true d = inl (ltb-true n (frameBits Short) d)
@@ -84,9 +91,19 @@ in-width h bit f b =
     let small : (h .bits * 2 + bit) % 2 ^ 64 ≡ h .bits * 2 + bit = omega (arith, f .start, pow-mono (f .few)) in
     rw (few, small) refl
 
+start-facts : HeldFacts (holding 1 0)
+start-facts = record { few = omega arith; start = omega arith; format = inl (omega arith); few-wanted = omega arith; none-beside = inr refl }
+
+between-facts : (wanted bit : ℕ) → wanted ≤ 41 → HeldFacts (betweenFrames wanted bit)
+unfolding betweenFrames
+between-facts wanted bit h =
+    picked HeldFacts (eqb bit 0)
+    (picked HeldFacts (eqb wanted 0) start-facts (wanting-facts 41 (omega arith)))
+    (wanting-facts (wanted - 1) (omega arith))
+
 pub taken-facts : (h : Held) (bit : ℕ) → HeldFacts h → bit < 2 → TakenFacts (takeBit h bit)
-unfolding takeBit isWaiting
+unfolding takeBit
 taken-facts h bit f b =
     picked-by TakenFacts (eqb (h .count) 0)
-    (λ e. picked-by TakenFacts (eqb bit 0) (λ z. record { few = omega arith; start = omega arith; format = inl (omega arith) }) (λ z. f))
+    (λ e. between-facts (h .wanted) bit (f .few-wanted))
     (λ e. rw (in-width h bit f b) (frameOrPart-facts (h .count + 1) (h .bits * 2 + bit) (more h bit f b (eqb-false (h .count) 0 e))))

@@ -1,15 +1,15 @@
-// Document 01, "Frames on channel B": the frame bits held, the next one, and what a finished frame
-// leaves held. No check number is computed here: that waits for a whole frame. Every function takes
-// any bits held and any bit.
+// Document 01, "Frames on channel B", with document 02, Q-1: what is held, the next bit, and what a
+// finished frame leaves held. No check number is computed here: that waits for a whole frame. Every
+// function takes any value held and any bit.
 ghost use mathlib.Core.Path.{_≡_};
-ghost use Prim.Native.Nat.{_+_, _*_, _%_, _^_};
-ghost use Rattle.channel_b.specs.TakeBit.{frameOrPart, takeBit, heldAfter};
+ghost use Prim.Native.Nat.{_+_, _-_, _*_, _%_, _^_};
+ghost use Rattle.receiver_state.specs.State.{wantingOnes};
+ghost use Rattle.channel_b.specs.TakeBit.{frameOrPart, betweenFrames, takeBit, heldAfter};
 use frame::Kind;
 use receiver_state::Held;
-use receiver_state::is_waiting;
 use std::num::wrapping_add_u64;
 
-// What a bit of channel B leaves: the bits then held, none if the receiver waits; or a whole frame.
+// What a bit of channel B leaves: what is then held; or a whole frame.
 pub enum Taken {
     Unfinished(Held),
     Finished { kind: Kind, number: u64 },
@@ -34,7 +34,11 @@ fn frame_or_part(count: u8, bits: u64) -> Taken
             };
         }
     }
-    Taken::Unfinished(Held { count, bits })
+    Taken::Unfinished(Held {
+        count,
+        wanted: 0,
+        bits,
+    })
 }
 
 // One more, in 8 bits.
@@ -51,22 +55,72 @@ fn next_bits(bits: u64, bit: u8) -> u64
     wrapping_add_u64(bits % 0x8000_0000_0000_0000 * 2, bit as u64)
 }
 
+// So many ones are wanted, and no frame bit is held.
+fn wanting(wanted: u8) -> Held
+    ensures { λ r. ⌜ r ≡ wantingOnes wanted ⌝ }
+{
+    Held {
+        count: 0,
+        wanted,
+        bits: 0,
+    }
+}
+
+// One less, or none.
+fn one_less(wanted: u8) -> u8
+    ensures { λ r. ⌜ r ≡ wanted - 1 ⌝ }
+{
+    if wanted == 0 {
+        return 0;
+    }
+    wanted - 1
+}
+
+// A bit with no frame bit held: a 0 is the start bit, or begins the run of ones again; a 1 is one less
+// to come. So waiting and wanting ones take the same time on an idle line.
+fn between_frames(wanted: u8, bit: u8) -> Held
+    ensures { λ r. ⌜ r ≡ betweenFrames wanted bit ⌝ }
+{
+    if bit == 0 {
+        if wanted == 0 {
+            return Held {
+                count: 1,
+                wanted: 0,
+                bits: 0,
+            };
+        }
+        return wanting(41);
+    }
+    wanting(one_less(wanted))
+}
+
+// So many ones in a row, with no frame bit held and so many ones wanted: what they leave one after the
+// other (`one-wanted` of `BitLaw`).
+pub fn take_ones(wanted: u8, ones: usize) -> Held
+    ensures { λ r. ⌜ r ≡ wantingOnes (wanted - ones) ⌝ }
+{
+    if wanted as usize > ones {
+        return wanting(wanted - ones as u8);
+    }
+    wanting(0)
+}
+
 // One bit of channel B.
 pub fn take_bit(held: Held, bit: u8) -> Taken
     ensures { λ r. ⌜ r ≡ takeBit held bit ⌝ }
 {
-    if is_waiting(held) {
-        if bit == 0 {
-            return Taken::Unfinished(Held { count: 1, bits: 0 });
-        }
-        return Taken::Unfinished(held);
+    if held.count == 0 {
+        return Taken::Unfinished(between_frames(held.wanted, bit));
     }
     frame_or_part(next_count(held.count), next_bits(held.bits, bit))
 }
 
-// What a finished frame leaves held: nothing, of every kind and number.
-pub fn held_after(kind: Kind, number: u64) -> Held
-    ensures { λ r. ⌜ r ≡ heldAfter kind number ⌝ }
+// What a finished frame leaves held: nothing, or after a stop bit of 0 the 41 ones wanted.
+pub fn held_after(number: u64) -> Held
+    ensures { λ r. ⌜ r ≡ heldAfter number ⌝ }
 {
-    Held { count: 0, bits: 0 }
+    if number % 2 != 0 {
+        return wanting(0);
+    }
+    wanting(41)
 }

@@ -1,4 +1,4 @@
--- A list of calls beside its idle list: as long as no frame finishes, the states differ in the frame bits held alone, and the answers are the same.
+-- A list of calls beside its idle list: as long as no frame finishes, the states differ in what is held alone, and the answers are the same.
 -- Assumes nothing.
 use mathlib.Core.Path.{_≡_, refl, sym, ap, subst, _∙_}
 use mathlib.Core.Bool.{Bool, true, false, cond}
@@ -21,7 +21,7 @@ use Rattle.guarantees.specs.Calls.{Call, clock, read, write, CallAnswer,
 use Rattle.guarantees.proofs.OneCall.{accepted-bits, bits-accepted, holding-none, reads, writes, refused-clock, unfinished-clock, keeps}
 use Rattle.guarantees.proofs.HeldBits.{Holds, holds-append}
 
-idle-accepted : (trigger bit : ℕ) → refusalOf (clock trigger bit) ≡ 0 → refusalOf (clock trigger 1) ≡ 0
+pub idle-accepted : (trigger bit : ℕ) → refusalOf (clock trigger bit) ≡ 0 → refusalOf (clock trigger 1) ≡ 0
 idle-accepted trigger bit h = bits-accepted trigger 1 (accepted-bits trigger bit h .0) (omega arith)
 
 module _ (columns : Kind → List ℕ) (laws : ClockLaws columns) where

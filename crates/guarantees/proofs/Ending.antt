@@ -51,7 +51,7 @@ module _ (columns : Kind → List ℕ) (laws : ClockLaws columns) where
             (finished-clock columns laws (f .last) (firstBits kind number (lead kind)) trigger bit kind number (f .well-formed) h
             (rw (p .last-bit) (last-held kind number frame))
             ∙ ap (λ (held : Held). let done = finishedBy columns kind number (idleClock (f .last) trigger) in result (receiver (done .core) held) 0 (done .outputs) 0)
-            (after-frame .stop-one kind number stop));
+            (after-frame .stop-one number stop));
         idle-ends = rw (f .there) (idle-clock columns laws (f .last) trigger bit (holding-none (f .last) _ (f .well-formed)) h);
       }
 

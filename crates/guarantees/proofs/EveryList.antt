@@ -69,7 +69,7 @@ module _ (columns : Kind → List ℕ) (laws : ClockLaws columns) where
   stays-well-formed [] r e = e
   stays-well-formed (c ∷ cs) r e = stays-well-formed cs (call columns r c .receiver) (keeps columns laws r c e)
 
-  -- what a list leaves of the frame bits held
+  -- what a list leaves held
   holds-run : (cs : List Call) (r : Receiver) → wellFormed r ≡ true → run columns r cs .held ≡ heldOver (r .held) (channelB cs)
   unfolding run channelB heldOver
   holds-run [] r e = refl

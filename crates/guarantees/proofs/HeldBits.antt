@@ -1,12 +1,13 @@
--- The frame bits held over a list of bits of channel B: 41 ones, and the bits of a frame. Assumes nothing.
+-- What is held over a list of bits of channel B: 41 ones, and the bits of a frame. Assumes nothing.
 use mathlib.Core.Path.{_≡_, refl, sym, ap, _∙_}
 use mathlib.Core.Logic.{_≢_, _⊎_, inl, inr}
-use mathlib.Core.Bool.{true, false}
+use mathlib.Core.Bool.{true}
 use mathlib.Core.List.{List, [], _∷_, _++_}
 use Prim.Native.Nat.{ℕ, zero, suc, _+_, _-_, _*_, _/_, _%_, _^_, _≤_, _<_}
 use native.Mathlib.Nat.{div-one}
 use native.Mathlib.Omega.{arith}
-use borrow.Author.Tests.{eqb-false}
+use borrow.Author.Tests.{eqb-true, eqb-false}
+use lib.Dec.{eqb}
 use lib.ListN.{replicate}
 use lib.Pow.{shr-shr}
 use Rattle.laws.proofs.Rules.{by-test}
@@ -16,9 +17,9 @@ use Rattle.frame.specs.Numbers.{frameBits, isFrame}
 use Rattle.frame.specs.Bits.{bitsOf, Bits}
 use Rattle.frame.proofs.Bits.{bits-law}
 use Rattle.receiver_state.specs.declared.Held.{Held}
-use Rattle.receiver_state.specs.State.{holding, nothingHeld, isWaiting}
+use Rattle.receiver_state.specs.State.{holding, wantingOnes, nothingHeld}
 use Rattle.receiver_state.specs.WellFormed.{HeldFacts}
-use Rattle.receiver_state.proofs.HeldBits.{waiting-law}
+use Rattle.receiver_state.proofs.HeldBits.{no-bit}
 use Rattle.channel_b.specs.declared.Taken.{Taken}
 use Rattle.channel_b.specs.declared.Taken.the-variants.{Unfinished, Finished}
 use Rattle.channel_b.specs.TakeBit.{takeBit, heldAfterBit}
@@ -43,7 +44,7 @@ then-facts held bit f b = go (takeBit held bit) (taken-facts held bit f b)
   where
     go : (taken : Taken) → TakenFacts taken → HeldFacts (heldAfterBit taken)
     go (Unfinished after) h = h
-    go (Finished kind number) h = after-frame .well-formed kind number
+    go (Finished kind number) h = after-frame .well-formed number
 
 pub over-facts : (bs : List ℕ) (held : Held) → Bits bs → HeldFacts held → HeldFacts (heldOver held bs)
 unfolding heldOver
@@ -52,44 +53,35 @@ over-facts (b ∷ bs) held (p, q) f = over-facts bs (heldAfterBit (takeBit held 
 
 -- ---- ones
 
--- k ones are enough for a receiver that waits, and for one that holds 42 - k bits
+-- k ones are enough for a receiver that wants k or fewer (one that waits wants none), and for one that holds at least 42 - k frame bits
 abbrev Near : ℕ → Held → Type 0
-Near k held = (held ≡ nothingHeld) ⊎ (42 ≤ k + held .count)
+Near k held = ((wanted : ℕ) × (held ≡ wantingOnes wanted) × (wanted ≤ k)) ⊎ ((1 ≤ held .count) × (42 ≤ k + held .count))
 
 nearer : (k : ℕ) (held : Held) → HeldFacts held → Near (suc k) held → Near k (heldAfterBit (takeBit held 1))
-nearer k held f near = by-test (isWaiting held) (λ t. waiting (waiting-law held f .0 t)) (λ t. later near t)
+nearer k held f (inl (wanted, z, h)) = rw (z, bit-law .one-wanted wanted) (inl (wanted - 1, refl, omega arith))
+nearer k held f (inr (some, h)) = grown (bit-law .later-bit held 1 f (omega arith) some)
   where
-    waiting : held ≡ nothingHeld → Near k (heldAfterBit (takeBit held 1))
-    waiting z = rw (z, bit-law .idle-bit) (inl refl)
-
-    grown : 42 ≤ suc k + held .count
-        → ((kind : Kind) × (takeBit held 1 ≡ Finished kind (held .bits * 2 + 1))) ⊎ (takeBit held 1 ≡ Unfinished (holding (held .count + 1) (held .bits * 2 + 1)))
+    grown : ((kind : Kind) × (takeBit held 1 ≡ Finished kind (held .bits * 2 + 1))) ⊎ (takeBit held 1 ≡ Unfinished (holding (held .count + 1) (held .bits * 2 + 1)))
         → Near k (heldAfterBit (takeBit held 1))
-    grown h (inl (kind, e)) = rw e (inl (after-frame .stop-one kind (held .bits * 2 + 1) (odd (held .bits))))
+    grown (inl (kind, e)) = rw e (inl (0, after-frame .stop-one (held .bits * 2 + 1) (odd (held .bits)), omega arith))
       where
         odd : (n : ℕ) → (n * 2 + 1) % 2 ≡ 1
         odd n = omega arith
-    grown h (inr e) = rw e (inr (omega arith))
-
-    later : Near (suc k) held → isWaiting held ≡ false → Near k (heldAfterBit (takeBit held 1))
-    later (inl z) w = waiting z
-    later (inr h) w = grown h (bit-law .later-bit held 1 f (omega arith) w)
+    grown (inr e) = rw e (inr (omega arith, omega arith))
 
 ones-wait : (k : ℕ) (held : Held) → HeldFacts held → Near k held → heldOver held (replicate k 1) ≡ nothingHeld
 unfolding heldOver
-ones-wait zero held f (inl z) = z
-ones-wait zero held f (inr h) = absurd (omega (arith, f .few))
+ones-wait zero held f (inl (wanted, z, h)) = z ∙ ap wantingOnes (let none : wanted ≡ 0 = omega arith in none)
+ones-wait zero held f (inr (some, h)) = absurd (omega (arith, f .few))
 ones-wait (suc k) held f near = ones-wait k (heldAfterBit (takeBit held 1)) (then-facts held 1 f (omega arith)) (nearer k held f near)
-
-some-held : (held : Held) → isWaiting held ≡ false → held .count ≢ 0
-unfolding isWaiting
-some-held held w = eqb-false (held .count) 0 w
 
 -- 41 are enough for every receiver
 pub enough-ones : (k : ℕ) (held : Held) → 41 ≤ k → HeldFacts held → heldOver held (replicate k 1) ≡ nothingHeld
 enough-ones k held h f =
     ones-wait k held f
-    (by-test (isWaiting held) (λ t. inl (waiting-law held f .0 t)) (λ t. let n : held .count ≢ 0 = some-held held t in inr (omega arith)))
+    (by-test (eqb (held .count) 0)
+    (λ t. inl (held .wanted, no-bit held f (eqb-true (held .count) 0 t), omega (arith, f .few-wanted)))
+    (λ t. let n : held .count ≢ 0 = eqb-false (held .count) 0 t in inr (omega arith, omega arith)))
 
 -- ---- the bits of a frame
 
@@ -102,7 +94,7 @@ pub holds-append : (xs ys : List ℕ) (held after : Held) → Holds held (xs ++ 
 holds-append [] ys held after h = (held, refl, h)
 holds-append (x ∷ xs) ys held after (next, e, h) = let r = holds-append xs ys next after h in (r .0, (next, e, r .1), r .2)
 
-holds-one-more : (bs : List ℕ) (b : ℕ) (held between after : Held) → Holds held bs between → takeBit between b ≡ Unfinished after → Holds held (bs ++ (b ∷ [])) after
+pub holds-one-more : (bs : List ℕ) (b : ℕ) (held between after : Held) → Holds held bs between → takeBit between b ≡ Unfinished after → Holds held (bs ++ (b ∷ [])) after
 holds-one-more [] b held between after h e = (after, rw h e, refl)
 holds-one-more (c ∷ bs) b held between after (next, t, h) e = (next, t, holds-one-more bs b next between after h e)
 

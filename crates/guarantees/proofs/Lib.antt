@@ -7,6 +7,7 @@ mod ChannelB
 mod EveryList
 mod Ending
 pub mod Demand3
+pub mod BadStop
 pub mod Existence
 pub mod Examples
 pub mod Blocks

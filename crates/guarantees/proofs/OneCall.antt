@@ -1,4 +1,4 @@
--- One call on a well-formed state: its refusal, the state it leaves, and what it sees of the frame bits held. Assumes nothing.
+-- One call on a well-formed state: its refusal, the state it leaves, and what is held after it. Assumes nothing.
 use mathlib.Core.Path.{_≡_, refl, sym, ap, _∙_}
 use mathlib.Core.Logic.{_⊎_, inl, inr}
 use mathlib.Core.Bool.{Bool, true, false, cond, true≢false}
@@ -127,13 +127,13 @@ module _ (columns : Kind → List ℕ) (laws : ClockLaws columns) where
   pub finished-clock : (core : Core) (held : Held) (trigger bit : ℕ) (kind : Kind) (number : ℕ) → wellFormed (receiver core held) ≡ true
       → refusalOf (clock trigger bit) ≡ 0 → takeBit held bit ≡ Finished kind number
       → let done = finishedBy columns kind number (idleClock core trigger) in
-      call columns (receiver core held) (clock trigger bit) ≡ result (receiver (done .core) (heldAfter kind number)) 0 (done .outputs) 0
+      call columns (receiver core held) (clock trigger bit) ≡ result (receiver (done .core) (heldAfter number)) 0 (done .outputs) 0
   unfolding call
   finished-clock core held trigger bit kind number e h t =
       let b = accepted-bits trigger bit h in
       rw (laws .frame-law (receiver core held) trigger bit kind number (e, b .0, b .1) t) refl
 
-  -- what a call does to the frame bits held
+  -- what a call does to what is held
   pub holds-after : (r : Receiver) (c : Call) → wellFormed r ≡ true → call columns r c .receiver .held ≡ heldOver (r .held) (carried c)
   unfolding carried heldOver
   holds-after r (read number) e = ap (λ (d : CallResult). d .receiver .held) (reads columns (r .core) (r .held) number e)

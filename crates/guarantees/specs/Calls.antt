@@ -39,7 +39,7 @@ result r refusal outputs byte = record { receiver = r; answer = record { refusal
 
 -- The step of a list: "Each call answers, and refuses, exactly as demand 2's rules and the table of refusals say." `clockAnswer`, `readAnswer` and
 -- `writeAnswer` are what the functions `clock`, `read` and `write` give by their contracts. The function `read` gets a copy of the state: the core is left
--- as `afterRead` says, and the frame bits held stay.
+-- as `afterRead` says, and what is held of channel B stays.
 unfoldable pub call : (Kind → List ℕ) → Receiver → Call → CallResult
 call columns r (clock trigger bit) =
     let done = clockAnswer columns r trigger bit in result (done .receiver) (done .refusal) (done .outputs) 0

@@ -1,4 +1,4 @@
--- Document 01, "Demand 3, over lists of calls": lists of calls whose answers are computed, from the fresh state of ID 5 and I2C ID 5. Proved in proofs/Examples.antt.
+-- Document 01, "Demand 3, over lists of calls", and document 02, Q-1: lists of calls whose answers are computed, from the fresh state of ID 5 and I2C ID 5. Proved in proofs/Examples.antt.
 use Prim.Native.Nat.{ℕ, zero, suc}
 use mathlib.Core.Path.{_≡_}
 use mathlib.Core.Bool.{true}
@@ -12,10 +12,12 @@ use Rattle.frame.specs.Bits.{bitsOf}
 use Rattle.frame.specs.Encode.{broadcast, encodeFields}
 use Rattle.frame.specs.Frames.{flipProtected}
 use Rattle.receiver_state.specs.declared.Receiver.{Receiver}
-use Rattle.receiver_state.specs.State.{ids, holding, receiver, freshCore, freshState}
+use Rattle.receiver_state.specs.State.{ids, holding, wantingOnes, receiver, freshCore, freshState}
 use Rattle.receiver_state.specs.WellFormed.{wellFormed}
 use Rattle.channel_b.specs.TakeBit.{Waits}
 use Rattle.guarantees.specs.Calls.{Call, clock, read, write, CallAnswer, run, answers, channelB}
+use Rattle.guarantees.specs.FrameLists.{lastCall}
+use Rattle.guarantees.specs.BadStop.{First41st, BadStop}
 use Rattle.guarantees.specs.Existence.{carry}
 
 -- ---- twenty calls that carry a broadcast
@@ -106,3 +108,24 @@ pub record FortyOnes : Type 0 where
   pub forty : channelB (idleClocks 40) ≡ replicate 40 1
   pub holds-41 : run columnsOf afterStartBit (idleClocks 40) .held .count ≡ 41
   pub waits-not : Waits (run columnsOf afterStartBit (idleClocks 40)) → ⊥
+
+-- ---- 40 ones are not enough after verdict 7
+
+abbrev pub zeroClocks : ℕ → List Call
+zeroClocks zero = []
+zeroClocks (suc n) = clock 0 0 ∷ zeroClocks n
+
+-- sixteen zeros are a short frame whose stop bit is 0
+pub record AfterBadStop : Type 0 where
+  -- so what `BadStopLaws` asks for is met
+  pub bad-stop : BadStop columnsOf (run columnsOf start (zeroClocks 15)) 0 0 (run columnsOf start (zeroClocks 16))
+  pub first-41st : First41st (idleClocks 40) 0
+  pub verdict-7 : lastCall columnsOf start (zeroClocks 15) (clock 0 0) .answer .outputs .verdict ≡ 7
+  pub wants-41 : run columnsOf start (zeroClocks 16) .held ≡ wantingOnes 41
+  pub wants-1 : run columnsOf start (zeroClocks 16 ++ idleClocks 40) .held ≡ wantingOnes 1
+  pub waits-not : Waits (run columnsOf start (zeroClocks 16 ++ idleClocks 40)) → ⊥
+  -- a 0 in place of the 41st one is no start bit, and the run begins again
+  pub begins-again : run columnsOf start (zeroClocks 16 ++ (idleClocks 40 ++ (clock 0 0 ∷ []))) .held ≡ wantingOnes 41
+  pub waits : Waits (run columnsOf start (zeroClocks 16 ++ idleClocks 41))
+  -- and a 0 after it is one
+  pub start-bit : run columnsOf start (zeroClocks 16 ++ (idleClocks 41 ++ (clock 0 0 ∷ []))) .held ≡ holding 1 0

@@ -30,7 +30,7 @@ module _ (columns : Kind → List ℕ) where
   lastCall r before last = call columns (run columns r before) last
 
   -- "each clock before the last has verdict 0, and all outputs, bytes read and refusals before the last clock equal the idle list's"; the state too,
-  -- but for the frame bits held
+  -- but for the frame bits held and the ones wanted
   pub record AsIdleBefore (r : Receiver) (before : List Call) : Type 0 where
     pub verdict-0 : map (λ (a : CallAnswer). a .outputs .verdict) (answers columns r before) ≡ map (λ (c : Call). 0) before
     pub answers-same : answers columns r before ≡ answers columns r (idle before)

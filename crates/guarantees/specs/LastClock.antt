@@ -74,7 +74,7 @@ pub record LongEffect (fields : Fields) (verdict : ℕ) (idle after : Core) : Ty
   pub stored-byte : verdict ≡ 2 → registerOf (after .settings) (fields .sub) ≡ fields .«data»
   pub others-stay : verdict ≡ 2 → (number : ℕ) → number < 4 → number ≢ fields .sub → registerOf (after .settings) number ≡ registerOf (idle .settings) number
   pub config-stays : verdict ≡ 2 → (after .settings .config2 ≡ idle .settings .config2) × (after .settings .config3 ≡ idle .settings .config3)
-  -- 3: "state becomes the fresh one of the same IDs"; `reset-is-fresh` of `CleanLast` says it of the frame bits held too
+  -- 3: "state becomes the fresh one of the same IDs"; `reset-is-fresh` of `CleanLast` says it of what is held too
   pub fresh : verdict ≡ 3 → after ≡ freshCore (idle .ids)
 
 abbrev pub EffectOf : Kind → Fields → ℕ → Core → Core → Type 0

@@ -18,7 +18,7 @@ use Rattle.stored_line.specs.Read.{readLine}
 use Rattle.line_report.specs.declared.LinePart.{LinePart}
 use Rattle.line_report.specs.declared.Report.{Report}
 use Rattle.line_report.specs.Text.{coreEndText}
-use Rattle.line_report.specs.Output.{lastLine, linesAfter, feedLine, nextLine, linePrints, linesPrint, linesLeave, outputOf}
+use Rattle.line_report.specs.Output.{lastLine, linesAfter, afterLine, nextLine, linePrints, linesPrint, linesLeave, outputOf}
 use Rattle.line_report.specs.Report.{noCharacters, emptyPart, withCharacter, readPart, report, startReport, lineEnded, lineEndPrints, afterByte, bytePrints, afterBytes, bytesPrint, longestLine, Work, work, behind, workOn, reportDone, doneBy, roomWanted, reportInput, longestEnd, afterLast, lastPrints, endPrints, endWork, endWanted, reportEnd}
 use Rattle.line_report.specs.Cuts.{Offer, writtenBy, offered, reportAll, GoodOffers, Piece, inputOf, offersOf, RoomForAll, WantedNone, WantedLine, WantedHelps, CutsTheorem, ReportCuts, LongestReached}
 use Rattle.frame.specs.Columns.{columnsOf}
@@ -187,7 +187,7 @@ module _ (columns : Kind → List ℕ) where
   feed-lines now line bytes rest h e =
       ap (λ (text : List ℕ). lineEndPrints columns now (readPart (now .part)) ++ text) e
       ∙ ap (λ (read : StoredLine). linePrints columns (now .receiver) (now .lines) read
-      ++ linesPrint columns (feedLine columns (now .receiver) read .receiver) (nextLine (now .lines)) (linesAfter [] bytes)) (holds-read (now .part) line h)
+      ++ linesPrint columns (afterLine columns (now .receiver) read) (nextLine (now .lines)) (linesAfter [] bytes)) (holds-read (now .part) line h)
 
   -- a line feed, and any other byte
   module _ (now : Report) (byte : ℕ) (line bytes : List ℕ) where
@@ -275,7 +275,7 @@ module _ (columns : Kind → List ℕ) where
   end-leaves now [] h = rw (eq-eqb (now .part .count) 0 (no-characters (now .part) h)) refl
   end-leaves now (character ∷ characters) h =
       rw (ne-eqb (now .part .count) 0 (some-characters (now .part) character characters h))
-      (ap (λ (read : StoredLine). feedLine columns (now .receiver) read .receiver) (holds-read (now .part) (character ∷ characters) h))
+      (ap (λ (read : StoredLine). afterLine columns (now .receiver) read) (holds-read (now .part) (character ∷ characters) h))
 
   abbrev leavesOn : Report → List ℕ → Receiver
   leavesOn now input = afterLast columns (afterBytes columns now input) .receiver
@@ -289,7 +289,7 @@ module _ (columns : Kind → List ℕ) where
   leaves-one now byte bytes = refl
 
   line-left : (r : Receiver) (line : List ℕ) (rest : List (List ℕ))
-      → linesLeave columns (feedLine columns r (readLine line) .receiver) rest ≡ linesLeave columns r (line ∷ rest)
+      → linesLeave columns (afterLine columns r (readLine line)) rest ≡ linesLeave columns r (line ∷ rest)
   unfolding linesLeave
   line-left r line rest = refl
 
@@ -305,7 +305,7 @@ module _ (columns : Kind → List ℕ) where
       ∙ by-test (eqb byte 10)
       (λ t. ap (λ (r : Report). leavesOn r bytes) (feed-after now byte line bytes t)
       ∙ from-next
-      ∙ ap (λ (read : StoredLine). linesLeave columns (feedLine columns (now .receiver) read .receiver) (linesAfter [] bytes)) (holds-read (now .part) line h)
+      ∙ ap (λ (read : StoredLine). linesLeave columns (afterLine columns (now .receiver) read) (linesAfter [] bytes)) (holds-read (now .part) line h)
       ∙ line-left (now .receiver) line (linesAfter [] bytes)
       ∙ ap (linesLeave columns (now .receiver)) (sym (feed-splits now byte line bytes t)))
       (λ t. ap (λ (r : Report). leavesOn r bytes) (other-after now byte line bytes t)

@@ -16,9 +16,10 @@ use Rattle.frame.specs.Numbers.{frameBits, isFrame}
 use Rattle.frame.specs.Columns.{columnsOf}
 use Rattle.frame.specs.Decode.{judged, finishedAnswer}
 use Rattle.receiver_state.specs.declared.Core.{Core}
+use Rattle.receiver_state.specs.declared.Held.{Held}
 use Rattle.receiver_state.specs.declared.Receiver.{Receiver}
-use Rattle.receiver_state.specs.State.{ids, errors, counters, noSequence, nothingHeld, receiver}
-use Rattle.receiver_state.specs.WellFormed.{idsOk, settingsOk, countersOk, sequenceOk, coreOk, heldOk, wellFormed}
+use Rattle.receiver_state.specs.State.{ids, errors, counters, noSequence, wantingOnes, nothingHeld, receiver}
+use Rattle.receiver_state.specs.WellFormed.{idsOk, settingsOk, countersOk, sequenceOk, coreOk, bitsOk, wantedOk, heldOk, wellFormed}
 use Rattle.receiver_state.specs.declared.Outputs.{Outputs}
 use Rattle.receiver_state.specs.declared.Clocked.{Clocked}
 use Rattle.receiver_state.specs.Shown.{noOutputs, showingFrame}
@@ -37,7 +38,7 @@ use Rattle.stored_line.specs.declared.StoredLine.the-variants.{Frame, Refused}
 use Rattle.stored_line.specs.Digits.{digitValue, allDigits, hexNumber, hexAnswer, digitCharacter, hexDigits}
 use Rattle.stored_line.specs.Read.{readLine}
 use Rattle.line_report.specs.Text.{decimalUpTo, decimal, kindDigits, wordDigits, wordText, verdictText, refusalText, answerText, lineText, countsText, endText}
-use Rattle.line_report.specs.Output.{linesAfter, feedLine, nextLine, linesPrint, outputOf}
+use Rattle.line_report.specs.Output.{linesAfter, feedLine, onesSent, afterLine, nextLine, linesPrint, outputOf}
 use Rattle.line_report.specs.Example.{endedLines, line1, line2, line3, line4, line5, line6, line7, line8, exampleLines, text1, text2, text3, text4, text5, text6, text7, text8, text9, ExampleOutput}
 
 -- ---- the input, cut into lines
@@ -71,11 +72,11 @@ cut (line ∷ lines) e =
 line-answer : (r : Receiver) (lines : ℕ) (characters : List ℕ) (rest : List (List ℕ)) (line : StoredLine) (answer : ClockAnswer)
     → readLine characters ≡ line → feedLine columnsOf r line ≡ answer
     → linesPrint columnsOf r lines (characters ∷ rest)
-    ≡ lineText (nextLine lines) (wordDigits line) answer ++ linesPrint columnsOf (answer .receiver) (nextLine lines) rest
+    ≡ lineText (nextLine lines) (wordDigits line) answer ++ linesPrint columnsOf (onesSent columnsOf answer) (nextLine lines) rest
 unfolding linesPrint
 line-answer r lines characters rest line answer e f =
-    ap (λ (l : StoredLine). lineText (nextLine lines) (wordDigits l) (feedLine columnsOf r l) ++ linesPrint columnsOf (feedLine columnsOf r l .receiver) (nextLine lines) rest) e
-    ∙ ap (λ (a : ClockAnswer). lineText (nextLine lines) (wordDigits line) a ++ linesPrint columnsOf (a .receiver) (nextLine lines) rest) f
+    ap (λ (l : StoredLine). lineText (nextLine lines) (wordDigits l) (feedLine columnsOf r l) ++ linesPrint columnsOf (afterLine columnsOf r l) (nextLine lines) rest) e
+    ∙ ap (λ (a : ClockAnswer). lineText (nextLine lines) (wordDigits line) a ++ linesPrint columnsOf (onesSent columnsOf a) (nextLine lines) rest) f
 
 -- the state between two lines
 abbrev waiting : Core → Receiver
@@ -84,23 +85,24 @@ waiting core = receiver core nothingHeld
 abbrev clocked : Core → Outputs → Clocked
 clocked after shown = record { core = after; outputs = shown }
 
--- a line with a frame: what is computed of it
-record FrameLine (core : Core) (lines : ℕ) (characters : List ℕ) (kind : Kind) (number : ℕ) (after : Core) (shown : Outputs) (text : List ℕ) : Type 0 where
+-- a line with a frame: what is computed of it. The frame leaves `held` and this core; `after` is the core after the ones that may follow.
+record FrameLine (core : Core) (lines : ℕ) (characters : List ℕ) (kind : Kind) (number : ℕ) (held : Held) (left : Core) (shown : Outputs) (after : Core) (text : List ℕ) : Type 0 where
   reads : readLine characters ≡ Frame kind number
   is-frame : isFrame kind number ≡ true
   well-formed : wellFormed (waiting core) ≡ true
-  done : finishedBy columnsOf kind number (settledClock (frameBits kind) core) ≡ clocked after shown
-  waits : heldAfter kind number ≡ nothingHeld
-  prints : lineText (nextLine lines) (kindDigits kind) (clockedAnswer nothingHeld (clocked after shown)) ≡ text ++ (10 ∷ [])
+  done : finishedBy columnsOf kind number (settledClock (frameBits kind) core) ≡ clocked left shown
+  leaves : heldAfter number ≡ held
+  ones : onesSent columnsOf (clockedAnswer held (clocked left shown)) ≡ waiting after
+  prints : lineText (nextLine lines) (kindDigits kind) (clockedAnswer held (clocked left shown)) ≡ text ++ (10 ∷ [])
 
-frame-line : {core : Core} {lines : ℕ} {characters : List ℕ} {kind : Kind} {number : ℕ} {after : Core} {shown : Outputs} {text : List ℕ}
-    → FrameLine core lines characters kind number after shown text → (rest : List (List ℕ))
+frame-line : {core : Core} {lines : ℕ} {characters : List ℕ} {kind : Kind} {number : ℕ} {held : Held} {left : Core} {shown : Outputs} {after : Core} {text : List ℕ}
+    → FrameLine core lines characters kind number held left shown after text → (rest : List (List ℕ))
     → linesPrint columnsOf (waiting core) lines (characters ∷ rest) ≡ (text ++ (10 ∷ [])) ++ linesPrint columnsOf (waiting after) (nextLine lines) rest
-frame-line {core} {lines} {characters} {kind} {number} {after} {shown} l rest =
-    let answer = clockedAnswer nothingHeld (clocked after shown) in
+frame-line {core} {lines} {characters} {kind} {number} {held} {left} {shown} {after} {text} l rest =
+    let answer = clockedAnswer held (clocked left shown) in
     line-answer (waiting core) lines characters rest (Frame kind number) answer (l .reads)
-    (receiver-whole-frames .sent-frame-finishes (waiting core) kind number (l .well-formed) (waits-none core) (l .is-frame) ∙ ap₂ clockedAnswer (l .waits) (l .done))
-    ∙ ap (λ (t : List ℕ). t ++ linesPrint columnsOf (waiting after) (nextLine lines) rest) (l .prints)
+    (receiver-whole-frames .sent-frame-finishes (waiting core) kind number (l .well-formed) (waits-none core) (l .is-frame) ∙ ap₂ clockedAnswer (l .leaves) (l .done))
+    ∙ ap₂ (λ (t : List ℕ) (r : Receiver). t ++ linesPrint columnsOf r (nextLine lines) rest) (l .prints) (l .ones)
 
 -- ---- the eight lines
 
@@ -119,31 +121,46 @@ having coarse single double status5 bunch =
 abbrev showing : ℕ → ℕ → ℕ → Outputs
 showing verdict corrected word = showingFrame verdict corrected word noOutputs
 
+-- a frame with another verdict than 7, and one with 7
+abbrev Line : Core → ℕ → List ℕ → Kind → ℕ → Core → Outputs → List ℕ → Type 0
+Line core lines characters kind number after shown text = FrameLine core lines characters kind number nothingHeld after shown after text
+
+abbrev BadStopLine : Core → ℕ → List ℕ → Kind → ℕ → Core → Outputs → Core → List ℕ → Type 0
+BadStopLine core lines characters kind number left shown after text = FrameLine core lines characters kind number (wantingOnes 41) left shown after text
+
 record EightLines : Type 0 where
-  first : FrameLine (having 0 0 0 1 0) 0 line1 Short 0x004F (having 0 0 0 1 0) (showing 1 0 0x01) text1
-  second : FrameLine (having 0 0 0 1 0) 1 line2 Short 0x2097 (having 0 1 0 1 16) (showing 1 1 0x02) text2
-  third : FrameLine (having 0 1 0 1 16) 2 line3 Short 0x004E (having 0 1 1 0 32) (showing 7 0 0) text3
-  fourth : FrameLine (having 0 1 1 0 32) 3 line4 Short 0x304F (having 0 1 2 1 48) (showing 8 0 0) text4
-  fifth : FrameLine (having 0 1 2 1 48) 4 line5 Long 0x100150235AD (having 0x35 1 2 1 90) (showing 2 0 0x00150235) text5
-  sixth : FrameLine (having 0x35 1 2 1 90) 5 line6 Long 0x180150235AD (having 0x35 2 2 1 132) (showing 2 1 0x00150235) text6
-  seventh : FrameLine (having 0x35 2 2 1 132) 6 line7 Long 0x100190235B5 (having 0x35 2 2 1 174) (showing 5 0 0x00190235) text7
+  first : Line (having 0 0 0 1 0) 0 line1 Short 0x004F (having 0 0 0 1 0) (showing 1 0 0x01) text1
+  second : Line (having 0 0 0 1 0) 1 line2 Short 0x2097 (having 0 1 0 1 16) (showing 1 1 0x02) text2
+  -- 41 clocks more
+  third : BadStopLine (having 0 1 0 1 16) 2 line3 Short 0x004E (having 0 1 1 0 32) (showing 7 0 0) (having 0 1 1 0 73) text3
+  fourth : Line (having 0 1 1 0 73) 3 line4 Short 0x304F (having 0 1 2 1 89) (showing 8 0 0) text4
+  fifth : Line (having 0 1 2 1 89) 4 line5 Long 0x100150235AD (having 0x35 1 2 1 131) (showing 2 0 0x00150235) text5
+  sixth : Line (having 0x35 1 2 1 131) 5 line6 Long 0x180150235AD (having 0x35 2 2 1 173) (showing 2 1 0x00150235) text6
+  seventh : Line (having 0x35 2 2 1 173) 6 line7 Long 0x100190235B5 (having 0x35 2 2 1 215) (showing 5 0 0x00190235) text7
   eighth-reads : readLine line8 ≡ Refused 12
-  eighth-prints : lineText 8 0 (refusedClock 12 (waiting (having 0x35 2 2 1 174))) ≡ text8 ++ (10 ∷ [])
-  end-prints : linesPrint columnsOf (waiting (having 0x35 2 2 1 174)) 8 [] ≡ text9 ++ (10 ∷ [])
+  eighth-prints : lineText 8 0 (refusedClock 12 (waiting (having 0x35 2 2 1 215))) ≡ text8 ++ (10 ∷ [])
+  no-ones : onesSent columnsOf (refusedClock 12 (waiting (having 0x35 2 2 1 215))) ≡ waiting (having 0x35 2 2 1 215)
+  end-prints : linesPrint columnsOf (waiting (having 0x35 2 2 1 215)) 8 [] ≡ text9 ++ (10 ∷ [])
+
+-- the ones after the third line, done at once
+ones-after-third : onesSent columnsOf (clockedAnswer (wantingOnes 41) (clocked (having 0 1 1 0 32) (showing 7 0 0))) ≡ waiting (having 0 1 1 0 73)
+unfolding onesSent every idsOk settingsOk countersOk sequenceOk coreOk bitsOk wantedOk heldOk wellFormed restFor
+ones-after-third = ap (λ (a : ClockAnswer). a .receiver) (receiver-whole-frames .ones-after-7 (receiver (having 0 1 1 0 32) (wantingOnes 41)) refl refl .0)
 
 eight-lines : EightLines
-unfolding ones lowestOne every checkNumber syndrome firstFrom bySyndrome decodeWord isFrame judged idsOk settingsOk countersOk sequenceOk coreOk heldOk wellFormed upTo doubleUp clearedBy stored foreign longRow tableRow countErrors finished finishedAnswer heldAfter restFor digitValue allDigits hexNumber hexAnswer digitCharacter hexDigits readLine decimalUpTo decimal wordText verdictText refusalText answerText lineText countsText endText linesPrint
+unfolding ones lowestOne every checkNumber syndrome firstFrom bySyndrome decodeWord isFrame judged idsOk settingsOk countersOk sequenceOk coreOk bitsOk wantedOk heldOk wellFormed upTo doubleUp clearedBy stored foreign longRow tableRow countErrors finished finishedAnswer heldAfter restFor digitValue allDigits hexNumber hexAnswer digitCharacter hexDigits readLine decimalUpTo decimal wordText verdictText refusalText answerText lineText countsText endText linesPrint onesSent
 eight-lines =
     record {
-      first = record { reads = refl; is-frame = refl; well-formed = refl; done = refl; waits = refl; prints = refl };
-      second = record { reads = refl; is-frame = refl; well-formed = refl; done = refl; waits = refl; prints = refl };
-      third = record { reads = refl; is-frame = refl; well-formed = refl; done = refl; waits = refl; prints = refl };
-      fourth = record { reads = refl; is-frame = refl; well-formed = refl; done = refl; waits = refl; prints = refl };
-      fifth = record { reads = refl; is-frame = refl; well-formed = refl; done = refl; waits = refl; prints = refl };
-      sixth = record { reads = refl; is-frame = refl; well-formed = refl; done = refl; waits = refl; prints = refl };
-      seventh = record { reads = refl; is-frame = refl; well-formed = refl; done = refl; waits = refl; prints = refl };
+      first = record { reads = refl; is-frame = refl; well-formed = refl; done = refl; leaves = refl; ones = refl; prints = refl };
+      second = record { reads = refl; is-frame = refl; well-formed = refl; done = refl; leaves = refl; ones = refl; prints = refl };
+      third = record { reads = refl; is-frame = refl; well-formed = refl; done = refl; leaves = refl; ones = ones-after-third; prints = refl };
+      fourth = record { reads = refl; is-frame = refl; well-formed = refl; done = refl; leaves = refl; ones = refl; prints = refl };
+      fifth = record { reads = refl; is-frame = refl; well-formed = refl; done = refl; leaves = refl; ones = refl; prints = refl };
+      sixth = record { reads = refl; is-frame = refl; well-formed = refl; done = refl; leaves = refl; ones = refl; prints = refl };
+      seventh = record { reads = refl; is-frame = refl; well-formed = refl; done = refl; leaves = refl; ones = refl; prints = refl };
       eighth-reads = refl;
       eighth-prints = refl;
+      no-ones = refl;
       end-prints = refl;
     }
 
@@ -152,11 +169,11 @@ eight-lines =
 then-lines : (text : List ℕ) {rest output : List ℕ} → rest ≡ output → (text ++ (10 ∷ [])) ++ rest ≡ (text ++ (10 ∷ [])) ++ output
 then-lines text e = ap (λ (rest : List ℕ). (text ++ (10 ∷ [])) ++ rest) e
 
-last-lines : linesPrint columnsOf (waiting (having 0x35 2 2 1 174)) 7 (line8 ∷ []) ≡ endedLines (text8 ∷ text9 ∷ [])
+last-lines : linesPrint columnsOf (waiting (having 0x35 2 2 1 215)) 7 (line8 ∷ []) ≡ endedLines (text8 ∷ text9 ∷ [])
 last-lines =
-    let r = waiting (having 0x35 2 2 1 174) in
+    let r = waiting (having 0x35 2 2 1 215) in
     line-answer r 7 line8 [] (Refused 12) (refusedClock 12 r) (eight-lines .eighth-reads) refl
-    ∙ ap (λ (t : List ℕ). t ++ linesPrint columnsOf r 8 []) (eight-lines .eighth-prints)
+    ∙ ap₂ (λ (t : List ℕ) (x : Receiver). t ++ linesPrint columnsOf x 8 []) (eight-lines .eighth-prints) (eight-lines .no-ones)
     ∙ then-lines text8 (eight-lines .end-prints)
 
 no-feeds : noFeeds exampleLines ≡ true

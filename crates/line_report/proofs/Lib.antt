@@ -3,6 +3,8 @@ pub mod Decimal
 pub mod Word
 pub mod LineSoFar
 pub mod Bounds
+mod Ones
+pub mod EachLine
 pub mod Work
 pub mod Turn
 pub mod Cuts

@@ -6,12 +6,11 @@ use Rattle.hamming.specs.Code.{checkNumber, syndrome, firstFrom, bySyndrome, de
 use Rattle.frame.specs.Numbers.{isFrame}
 use Rattle.frame.specs.Bits.{bitsOf}
 use Rattle.frame.specs.Decode.{judged, finishedAnswer}
-use Rattle.receiver_state.specs.State.{isWaiting}
-use Rattle.receiver_state.specs.WellFormed.{idsOk, settingsOk, countersOk, sequenceOk, coreOk, heldOk, wellFormed}
+use Rattle.receiver_state.specs.WellFormed.{idsOk, settingsOk, countersOk, sequenceOk, coreOk, bitsOk, wantedOk, heldOk, wellFormed}
 use Rattle.register_map.specs.Change.{stored}
 use Rattle.verdicts.specs.Table.{upTo, doubleUp, clearedBy, foreign, longRow, tableRow}
 use Rattle.verdicts.specs.Finished.{countErrors, finished}
-use Rattle.channel_b.specs.TakeBit.{frameOrPart, takeBit, heldAfter}
+use Rattle.channel_b.specs.TakeBit.{frameOrPart, betweenFrames, takeBit, heldAfter}
 use Rattle.idle_clock.specs.IdleClock.{countClock, continued, started, busStep, idleClock}
 use Rattle.receiver.specs.Clock.{stepAnswer, clockAnswer}
 use Rattle.whole_frame.specs.WholeFrame.{clocksAnswer, receiveAnswer}
@@ -22,5 +21,5 @@ use Rattle.line_report.specs.Report.{readPart, bytePrints}
 use Rattle.line_report.specs.Cuts.{LongestReached}
 
 pub longest-reached : LongestReached
-unfolding every lowestOne checkNumber syndrome firstFrom bySyndrome decodeWord isFrame judged idsOk settingsOk countersOk sequenceOk coreOk heldOk wellFormed upTo doubleUp clearedBy stored foreign longRow tableRow countErrors finished finishedAnswer isWaiting frameOrPart takeBit heldAfter countClock continued started busStep idleClock stepAnswer clockAnswer bitsOf clocksAnswer receiveAnswer digitValue allDigits hexNumber hexAnswer digitCharacter hexDigits readLine decimalUpTo decimal wordText verdictText refusalText answerText lineText readPart bytePrints
+unfolding every lowestOne checkNumber syndrome firstFrom bySyndrome decodeWord isFrame judged idsOk settingsOk countersOk sequenceOk coreOk bitsOk wantedOk heldOk wellFormed upTo doubleUp clearedBy stored foreign longRow tableRow countErrors finished finishedAnswer frameOrPart betweenFrames takeBit heldAfter countClock continued started busStep idleClock stepAnswer clockAnswer bitsOf clocksAnswer receiveAnswer digitValue allDigits hexNumber hexAnswer digitCharacter hexDigits readLine decimalUpTo decimal wordText verdictText refusalText answerText lineText readPart bytePrints
 longest-reached = refl

@@ -81,9 +81,9 @@ text7 = 55 ∷ 32 ∷ 53 ∷ 32 ∷ 48 ∷ 32 ∷ 48 ∷ 48 ∷ 49 ∷ 57 ∷ 48
 abbrev pub text8 : List ℕ
 text8 = 56 ∷ 32 ∷ 33 ∷ 32 ∷ 49 ∷ 50 ∷ []
 
--- end 2 2 0 174
+-- end 2 2 0 215: document 02, Q-1, "In the example the bunch count becomes 215."
 abbrev pub text9 : List ℕ
-text9 = 101 ∷ 110 ∷ 100 ∷ 32 ∷ 50 ∷ 32 ∷ 50 ∷ 32 ∷ 48 ∷ 32 ∷ 49 ∷ 55 ∷ 52 ∷ []
+text9 = 101 ∷ 110 ∷ 100 ∷ 32 ∷ 50 ∷ 32 ∷ 50 ∷ 32 ∷ 48 ∷ 32 ∷ 50 ∷ 49 ∷ 53 ∷ []
 
 abbrev pub exampleTexts : List (List ℕ)
 exampleTexts = text1 ∷ text2 ∷ text3 ∷ text4 ∷ text5 ∷ text6 ∷ text7 ∷ text8 ∷ text9 ∷ []

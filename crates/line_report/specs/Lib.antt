@@ -1,6 +1,7 @@
 pub mod Text
 pub mod Write
 pub mod Output
+pub mod EachLine
 pub mod Report
 pub mod Turn
 pub mod Cuts

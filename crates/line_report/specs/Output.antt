@@ -1,14 +1,15 @@
--- Document 01, "Stored lines": what the program `ttclines` prints of an input as a whole, line by line.
+-- Document 01, "Stored lines", with document 02, Q-1: what the program `ttclines` prints of an input as a whole, line by line.
 use Prim.Native.Nat.{ℕ, _+_, _%_, _^_}
 use mathlib.Core.Bool.{cond}
 use mathlib.Core.List.{List, [], _∷_, _++_}
 use lib.Dec.{eqb}
+use lib.ListN.{replicate}
 use Rattle.frame.specs.declared.Kind.{Kind}
 use Rattle.receiver_state.specs.declared.Receiver.{Receiver}
 use Rattle.receiver_state.specs.State.{ids, freshState}
 use Rattle.receiver.specs.declared.ClockAnswer.{ClockAnswer}
 use Rattle.receiver.specs.Clock.{refusedClock}
-use Rattle.whole_frame.specs.WholeFrame.{receiveAnswer}
+use Rattle.whole_frame.specs.WholeFrame.{clocksAnswer, noClock, receiveAnswer}
 use Rattle.stored_line.specs.declared.StoredLine.{StoredLine}
 use Rattle.stored_line.specs.declared.StoredLine.the-variants.{Frame, Refused}
 use Rattle.stored_line.specs.Read.{readLine}
@@ -38,11 +39,20 @@ abbrev pub feedLine : (Kind → List ℕ) → Receiver → StoredLine → ClockA
 feedLine columns r (Frame kind number) = receiveAnswer columns r kind number
 feedLine columns r (Refused refusal) = refusedClock refusal r
 
+-- document 02, Q-1: "`ttclines` now sends 41 ones after each line with verdict 7." They come without triggers.
+unfoldable pub onesSent : (Kind → List ℕ) → ClockAnswer → Receiver
+onesSent columns answer =
+    cond (eqb (answer .outputs .verdict) 7) (clocksAnswer columns (noClock (answer .receiver)) (replicate 41 1) .receiver) (answer .receiver)
+
+-- the receiver after a line, and after the ones that follow it
+abbrev pub afterLine : (Kind → List ℕ) → Receiver → StoredLine → Receiver
+afterLine columns r line = onesSent columns (feedLine columns r line)
+
 -- the number of the next line; it has 64 bits
 abbrev pub nextLine : ℕ → ℕ
 nextLine lines = (lines + 1) % 2 ^ 64
 
--- the text of a line that comes after so many lines
+-- the text of a line that comes after so many lines; the ones that follow it print nothing
 abbrev pub linePrints : (Kind → List ℕ) → Receiver → ℕ → StoredLine → List ℕ
 linePrints columns r lines line = lineText (nextLine lines) (wordDigits line) (feedLine columns r line)
 
@@ -53,12 +63,12 @@ unfoldable pub linesPrint : (Kind → List ℕ) → Receiver → ℕ → List (L
 linesPrint columns r lines [] = coreEndText (r .core)
 linesPrint columns r lines (characters ∷ rest) =
     linePrints columns r lines (readLine characters)
-    ++ linesPrint columns (feedLine columns r (readLine characters) .receiver) (nextLine lines) rest
+    ++ linesPrint columns (afterLine columns r (readLine characters)) (nextLine lines) rest
 
 -- the receiver after lines
 unfoldable pub linesLeave : (Kind → List ℕ) → Receiver → List (List ℕ) → Receiver
 linesLeave columns r [] = r
-linesLeave columns r (characters ∷ rest) = linesLeave columns (feedLine columns r (readLine characters) .receiver) rest
+linesLeave columns r (characters ∷ rest) = linesLeave columns (afterLine columns r (readLine characters)) rest
 
 -- "has ID 5 and I2C ID 5, starts fresh"
 abbrev pub ownReceiver : Receiver

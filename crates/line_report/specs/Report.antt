@@ -1,4 +1,4 @@
--- Document 01, "Stored lines", for an input that comes in pieces: the report's state, one byte of input, a piece, and the end of input.
+-- Document 01, "Stored lines", with document 02, Q-1, for an input that comes in pieces: the report's state, one byte of input, a piece, and the end of input.
 -- `Report`, `LinePart` and `Reported` are structs of src/lib.rt.
 use Prim.Native.Nat.{ℕ, suc, _+_, _-_}
 use mathlib.Core.Bool.{cond}
@@ -16,7 +16,7 @@ use Rattle.line_report.specs.declared.LinePart.{LinePart}
 use Rattle.line_report.specs.declared.Report.{Report}
 use Rattle.line_report.specs.declared.Reported.{Reported}
 use Rattle.line_report.specs.Text.{kindDigits, coreEndText}
-use Rattle.line_report.specs.Output.{ownReceiver, feedLine, nextLine, linePrints}
+use Rattle.line_report.specs.Output.{ownReceiver, afterLine, nextLine, linePrints}
 
 -- ---- the line so far
 
@@ -63,7 +63,7 @@ startReport = report ownReceiver 0 emptyPart
 module _ (columns : Kind → List ℕ) where
   -- a line ends
   abbrev pub lineEnded : Report → StoredLine → Report
-  lineEnded now line = report (feedLine columns (now .receiver) line .receiver) (nextLine (now .lines)) emptyPart
+  lineEnded now line = report (afterLine columns (now .receiver) line) (nextLine (now .lines)) emptyPart
 
   abbrev pub lineEndPrints : Report → StoredLine → List ℕ
   lineEndPrints now line = linePrints columns (now .receiver) (now .lines) line

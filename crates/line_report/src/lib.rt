@@ -7,8 +7,9 @@ ghost use mathlib.Core.Path.{_≡_};
 ghost use Prim.Native.Nat.{_+_, _≤_, _<_};
 ghost use lib.ListN.{length};
 ghost use Rattle.frame.specs.Columns.{columnsOf};
+ghost use Rattle.whole_frame.specs.WholeFrame.{LeftWanting};
 ghost use Rattle.line_report.specs.Text.{kindDigits, wordDigits};
-ghost use Rattle.line_report.specs.Output.{feedLine};
+ghost use Rattle.line_report.specs.Output.{feedLine, onesSent};
 ghost use Rattle.line_report.specs.Write.{TextAt};
 ghost use Rattle.line_report.specs.Turn.{Turned};
 ghost use Rattle.line_report.specs.Report.{startReport, untilFeed, lineEnded, lineEndPrints, longestLine, afterLast, lastPrints, reportDone, reportInput, reportEnd};
@@ -24,6 +25,7 @@ use receiver_state::fresh;
 use stored_line::StoredLine;
 use text::put_end;
 use text::put_line;
+use whole_frame::after_41_ones;
 use whole_frame::receive_frame;
 
 mod part;
@@ -122,7 +124,20 @@ fn feed_line(receiver: Receiver, line: StoredLine) -> ClockAnswer
     }
 }
 
-// A line ends: its bits go through the receiver, and its text is written.
+// Document 02, Q-1: 41 ones follow a line with verdict 7, since the line leaves the receiver wanting
+// them.
+fn send_ones(answer: ClockAnswer) -> Receiver
+    requires { ⌜ LeftWanting answer ⌝ }
+    ensures { λ r. ⌜ r ≡ onesSent columnsOf answer ⌝ }
+{
+    if answer.outputs.verdict == 7 {
+        return after_41_ones(answer.receiver.core);
+    }
+    answer.receiver
+}
+
+// A line ends: its bits go through the receiver, and its text is written. After verdict 7 the 41 ones
+// follow.
 fn end_line(report: Report, line: StoredLine, at: usize, out: &mut [u8]) -> Ended
     requires { ⌜ at + length (lineEndPrints columnsOf report line) ≤ length (now out) ⌝ }
     ensures { λ r. ⌜ (r .report ≡ lineEnded columnsOf report line) × (TextAt (r .next) at (lineEndPrints columnsOf report line) (now (out .entry)) (now (out .exit))) ⌝ }
@@ -130,7 +145,7 @@ fn end_line(report: Report, line: StoredLine, at: usize, out: &mut [u8]) -> Ende
     let answer = feed_line(report.receiver, line);
     let lines = std::num::wrapping_add_u64(report.lines, 1);
     let next = put_line(lines, word_digits(line), answer, at, out);
-    let receiver = answer.receiver;
+    let receiver = send_ones(answer);
     let part = empty_part();
     let ended = Report {
         receiver,

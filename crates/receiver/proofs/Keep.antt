@@ -21,7 +21,7 @@ after-facts : (columns : Kind → List ℕ) (taken : Taken) (idle : Clocked) →
     → ReceiverFacts (receiver (applyFrame columns taken idle .core) (heldAfterBit taken))
 after-facts columns (Unfinished held) idle h f = record { of-core = f; of-held = h }
 after-facts columns (Finished kind number) idle h f =
-    record { of-core = finished-facts kind (finishedAnswer columns kind number) idle f; of-held = after-frame .well-formed kind number }
+    record { of-core = finished-facts kind (finishedAnswer columns kind number) idle f; of-held = after-frame .well-formed number }
 
 pub step-facts : (columns : Kind → List ℕ) (r : Receiver) (trigger bit : ℕ) → ReceiverFacts r → bit < 2
     → ReceiverFacts (stepAnswer columns r trigger bit .receiver)

@@ -1,14 +1,14 @@
 -- What holds of every clock. Assumes nothing.
 use mathlib.Core.Path.{_≡_, refl, sym, ap, ap₂, subst, _∙_}
-use mathlib.Core.Logic.{_≢_, _↔_, ⊎-elim}
+use mathlib.Core.Logic.{_≢_, _⊎_, _↔_, inl, inr, ⊎-elim}
 use mathlib.Core.Bool.{Bool, true, false, cond, true≢false}
 use mathlib.Core.List.{List}
 use Prim.Native.Nat.{ℕ, _≤_}
 use native.Mathlib.Omega.{arith}
-use borrow.Author.Tests.{eqb-false, lt-ltb, ltb-false}
+use borrow.Author.Tests.{eqb-true, eqb-false, lt-ltb, ltb-false}
 use lib.Dec.{eqb, ltb}
 use Rattle.laws.specs.OneOf.{oneOf}
-use Rattle.laws.proofs.Rules.{picked-by}
+use Rattle.laws.proofs.Rules.{picked-by, by-test}
 use Rattle.frame.specs.declared.Kind.{Kind}
 use Rattle.frame.specs.Numbers.{stopBit}
 use Rattle.frame.specs.Columns.{columnsOf}
@@ -16,10 +16,11 @@ use Rattle.frame.proofs.Columns.{tables-good}
 use Rattle.receiver_state.specs.declared.Settings.{Settings}
 use Rattle.receiver_state.specs.declared.Errors.{Errors}
 use Rattle.receiver_state.specs.declared.Core.{Core}
+use Rattle.receiver_state.specs.declared.Clocked.{Clocked}
 use Rattle.receiver_state.specs.declared.Held.{Held}
 use Rattle.receiver_state.specs.declared.Outputs.{Outputs}
 use Rattle.receiver_state.specs.declared.Receiver.{Receiver}
-use Rattle.receiver_state.specs.State.{receiver, freshState}
+use Rattle.receiver_state.specs.State.{wantingOnes, receiver, freshState}
 use Rattle.receiver_state.specs.Shown.{ShowsNothing, Stands}
 use Rattle.receiver_state.specs.WellFormed.{wellFormed}
 use Rattle.receiver_state.proofs.WellFormed.{receiver-facts, receiver-ok}
@@ -30,6 +31,7 @@ use Rattle.idle_clock.proofs.Laws.{idle-laws}
 use Rattle.channel_b.specs.declared.Taken.{Taken}
 use Rattle.channel_b.specs.declared.Taken.the-variants.{Unfinished, Finished}
 use Rattle.channel_b.specs.TakeBit.{takeBit, heldAfter, heldAfterBit, Waits}
+use Rattle.channel_b.proofs.Bits.{bit-law}
 use Rattle.channel_b.proofs.Laws.{finishes-frames, after-frame}
 use Rattle.verdicts.specs.Table.{dropped}
 use Rattle.verdicts.specs.Finished.{finished, finishedBy}
@@ -39,7 +41,7 @@ use Rattle.verdicts.proofs.Laws.{verdict-theorem}
 use Rattle.receiver.specs.declared.ClockAnswer.{ClockAnswer}
 use Rattle.receiver.specs.Clock.{applyFrame, clockedAnswer, stepAnswer, refusedClock, clockAnswer}
 use Rattle.receiver.specs.Laws as laws
-use Rattle.receiver.specs.Laws.{CountersAdvance, Accepted, ClockLaws, ClockTheorem, ReceiverLaws}
+use Rattle.receiver.specs.Laws.{CountersAdvance, Accepted, WaitsBut7, WantsAfter7, WantsOnlyAfter7, ClockLaws, ClockTheorem, ReceiverLaws}
 use Rattle.receiver.proofs.Unchecked.{step-is-clock, unfinished-step, finished-step}
 use Rattle.receiver.proofs.Keep.{step-facts}
 use Rattle.receiver.proofs.Advance.{unmoved-counters, advance}
@@ -155,7 +157,7 @@ module _ (columns : Kind → List ℕ) (verdicts : VerdictLaws columns) where
 
   by-taken : (P : Taken → ClockAnswer → Type 0) (r : Receiver) (trigger bit : ℕ)
       → ((held : Held) → P (Unfinished held) (clockedAnswer held (idleClock (r .core) trigger)))
-      → ((kind : Kind) (number : ℕ) → P (Finished kind number) (clockedAnswer (heldAfter kind number) (finishedBy columns kind number (idleClock (r .core) trigger))))
+      → ((kind : Kind) (number : ℕ) → P (Finished kind number) (clockedAnswer (heldAfter number) (finishedBy columns kind number (idleClock (r .core) trigger))))
       → P (takeBit (r .held) bit) (stepAnswer columns r trigger bit)
   unfolding stepAnswer
   by-taken P r trigger bit unfinished done = go (takeBit (r .held) bit)
@@ -195,14 +197,64 @@ module _ (columns : Kind → List ℕ) (verdicts : VerdictLaws columns) where
       rw (accepted r trigger bit h, f)
       (verdicts .shows-frame kind number (idleClock (r .core) trigger) (finishes-frames (r .held) bit kind number (receiver-facts r (h .0) .of-held) (h .2) f))
 
+  -- ---- what is held after a frame
+
+  zero-not-7 : _≡_ {A = ℕ} 0 7 → ⊥
+  zero-not-7 e = omega arith
+
+  -- a finished frame has a stop bit of 0 and verdict 7, or neither
+  by-stop : (kind : Kind) (number : ℕ) (idle : Clocked) → let verdict = finishedBy columns kind number idle .outputs .verdict in
+      ((stopBit number ≡ 0) × (verdict ≡ 7)) ⊎ ((stopBit number ≡ 1) × (verdict ≢ 7))
+  by-stop kind number idle =
+      by-test (eqb (stopBit number) 0)
+      (λ t. let z = eqb-true (stopBit number) 0 t in inl (z, verdicts .seven-exactly kind number idle .1 z))
+      (λ t. let n = eqb-false (stopBit number) 0 t in inr (is-bit number n, λ e. n (verdicts .seven-exactly kind number idle .0 e)))
+    where
+      is-bit : (number : ℕ) → stopBit number ≢ 0 → stopBit number ≡ 1
+      is-bit number n = omega (arith, n)
+
   waits-after : laws.WaitsAfter columns
   unfolding idleClock
   waits-after r trigger bit =
-      by-refusal (λ (a : ClockAnswer). a .outputs .verdict ≢ 0 → Waits (a .receiver)) r trigger bit
-      (λ h. by-taken (λ taken (a : ClockAnswer). a .outputs .verdict ≢ 0 → Waits (a .receiver)) r trigger bit
-      (λ held n. absurd (n refl))
-      (λ kind number n. after-frame .waits _ kind number))
-      (λ n m z. absurd (z refl))
+      by-refusal WaitsBut7 r trigger bit
+      (λ h. by-taken (λ taken a. WaitsBut7 a) r trigger bit
+      (λ held n m. absurd (n refl))
+      (λ kind number n m. ⊎-elim (λ s. absurd (m (s .1))) (λ s. after-frame .waits _ number (s .0)) (by-stop kind number (idleClock (r .core) trigger))))
+      (λ n m z k. absurd (z refl))
+
+  wants-after-7 : laws.WantsAfter columns
+  unfolding idleClock
+  wants-after-7 r trigger bit =
+      by-refusal WantsAfter7 r trigger bit
+      (λ h. by-taken (λ taken a. WantsAfter7 a) r trigger bit
+      (λ held e. absurd (zero-not-7 e))
+      (λ kind number e. ⊎-elim (λ s. after-frame .stop-zero number (s .0)) (λ s. absurd (s .1 e)) (by-stop kind number (idleClock (r .core) trigger))))
+      (λ n m e. absurd (zero-not-7 e))
+
+  wants-exactly : laws.WantsExactly columns
+  unfolding idleClock
+  wants-exactly r trigger bit h none =
+      rw (accepted r trigger bit h)
+      (by-taken (λ taken a. takeBit (r .held) bit ≡ taken → WantsOnlyAfter7 a) r trigger bit
+      (λ held t.
+      let stays = bit-law .no-new-ones (r .held) bit held none t in
+      record {
+        exactly = (λ e. absurd (zero-not-7 e), λ e. absurd (none-41 stays (ap (λ (x : Held). x .wanted) e)));
+        else-none = λ n. stays;
+      })
+      (λ kind number t. ⊎-elim
+      (λ s. record { exactly = (λ e. after-frame .stop-zero number (s .0), λ e. s .1); else-none = λ n. absurd (n (s .1)) })
+      (λ s.
+      let stays = ap (λ (x : Held). x .wanted) (after-frame .stop-one number (s .0)) in
+      record {
+        exactly = (λ e. absurd (s .1 e), λ e. absurd (none-41 stays (ap (λ (x : Held). x .wanted) e)));
+        else-none = λ n. stays;
+      })
+      (by-stop kind number (idleClock (r .core) trigger)))
+      refl)
+    where
+      none-41 : {n : ℕ} → n ≡ 0 → n ≡ 41 → ⊥
+      none-41 z e = omega arith
 
   -- ---- steps 1 and 2
 
@@ -269,14 +321,12 @@ module _ (columns : Kind → List ℕ) (verdicts : VerdictLaws columns) where
       (λ held e. absurd (omega arith))
       (λ kind number e.
       let idle = idleClock (r .core) trigger in
-      ap₂ receiver (verdicts .reset-is-fresh kind number idle e) (after-frame .stop-one kind number (stopped kind number (λ z. three-not-7 e (verdicts .seven-exactly kind number idle .1 z))))))
+      ap₂ receiver (verdicts .reset-is-fresh kind number idle e)
+      (⊎-elim (λ s. absurd (three-not-7 e (s .1))) (λ s. after-frame .stop-one number (s .0)) (by-stop kind number idle))))
       (λ n m e. absurd (omega arith))
     where
       three-not-7 : {n : ℕ} → n ≡ 3 → n ≡ 7 → ⊥
       three-not-7 t s = omega arith
-
-      stopped : (kind : Kind) (number : ℕ) → stopBit number ≢ 0 → stopBit number ≡ 1
-      stopped kind number n = omega (arith, n)
 
       Reset : ClockAnswer → Type 0
       Reset a = a .outputs .verdict ≡ 3 → a .receiver ≡ freshState (r .core .ids)
@@ -309,6 +359,8 @@ module _ (columns : Kind → List ℕ) (verdicts : VerdictLaws columns) where
     nothing-shown = nothing-shown;
     verdict-law = verdict-law;
     waits-after = waits-after;
+    wants-after-7 = wants-after-7;
+    wants-exactly = wants-exactly;
     outputs-stand = outputs-stand;
     bus-law = bus-law;
     sequence-law = sequence-law;

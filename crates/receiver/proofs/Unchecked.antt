@@ -25,6 +25,6 @@ module _ (columns : Kind → List ℕ) (r : Receiver) (trigger bit : ℕ) where
   unfinished-step held e = rw e refl
 
   pub finished-step : (kind : Kind) (number : ℕ) → takeBit (r .held) bit ≡ Finished kind number
-      → stepAnswer columns r trigger bit ≡ clockedAnswer (heldAfter kind number) (finishedBy columns kind number (idleClock (r .core) trigger))
+      → stepAnswer columns r trigger bit ≡ clockedAnswer (heldAfter number) (finishedBy columns kind number (idleClock (r .core) trigger))
   unfolding stepAnswer
   finished-step kind number e = rw e refl

@@ -12,7 +12,7 @@ use Rattle.receiver_state.specs.declared.Counters.{Counters}
 use Rattle.receiver_state.specs.declared.Held.{Held}
 use Rattle.receiver_state.specs.declared.Outputs.{Outputs}
 use Rattle.receiver_state.specs.declared.Receiver.{Receiver}
-use Rattle.receiver_state.specs.State.{freshState}
+use Rattle.receiver_state.specs.State.{wantingOnes, freshState}
 use Rattle.receiver_state.specs.Shown.{ShowsNothing, Stands}
 use Rattle.receiver_state.specs.WellFormed.{wellFormed}
 use Rattle.idle_clock.specs.IdleClock.{idleClock}
@@ -22,6 +22,7 @@ use Rattle.channel_b.specs.TakeBit.{takeBit, heldAfter, Waits}
 use Rattle.verdicts.specs.Table.{executed}
 use Rattle.verdicts.specs.Finished.{finishedBy}
 use Rattle.verdicts.specs.FrameLaws.{ShowsFrame, ErrorsMove, SettingsMove, ExecutedFrame}
+use Rattle.receiver.specs.declared.ClockAnswer.{ClockAnswer}
 use Rattle.receiver.specs.Clock.{clockedAnswer, refusedClock, clockAnswer}
 
 -- ---- the bunch and event counters
@@ -65,6 +66,21 @@ module _ (columns : Kind → List ℕ) where
   abbrev pub StaysWellFormed : Type 0
   StaysWellFormed = (r : Receiver) (trigger bit : ℕ) → wellFormed r ≡ true → wellFormed (clockAnswer columns r trigger bit .receiver) ≡ true
 
+-- ---- what is held after a frame
+
+-- "After a finished frame, .. the receiver waits for a start bit; the next bit may be one.", of every verdict but 7
+abbrev pub WaitsBut7 : ClockAnswer → Type 0
+WaitsBut7 done = done .outputs .verdict ≢ 0 → done .outputs .verdict ≢ 7 → Waits (done .receiver)
+
+-- document 02, Q-1: "After verdict 7 the receiver must see 41 ones in a row on channel B before a 0 counts as a start"
+abbrev pub WantsAfter7 : ClockAnswer → Type 0
+WantsAfter7 done = done .outputs .verdict ≡ 7 → done .receiver .held ≡ wantingOnes 41
+
+-- and only then: 41 ones are wanted exactly after verdict 7, and else none
+pub record WantsOnlyAfter7 (done : ClockAnswer) : Type 0 where
+  pub exactly : (done .outputs .verdict ≡ 7) ↔ (done .receiver .held ≡ wantingOnes 41)
+  pub else-none : done .outputs .verdict ≢ 7 → done .receiver .held .wanted ≡ 0
+
 -- ---- the bit of channel B
 
 -- the bit finishes that frame
@@ -72,7 +88,7 @@ abbrev pub Finishes : Receiver → ℕ → Kind → ℕ → Type 0
 Finishes r bit kind number = takeBit (r .held) bit ≡ Finished kind number
 
 module _ (columns : Kind → List ℕ) where
-  -- where no frame finishes, a clock is its steps 1 and 2, and the bits then held
+  -- where no frame finishes, a clock is its steps 1 and 2, and what is then held
   abbrev pub NoFrameLaw : Type 0
   NoFrameLaw =
       (r : Receiver) (trigger bit : ℕ) (held : Held) → Accepted r trigger bit → takeBit (r .held) bit ≡ Unfinished held
@@ -82,7 +98,7 @@ module _ (columns : Kind → List ℕ) where
   abbrev pub FrameLaw : Type 0
   FrameLaw =
       (r : Receiver) (trigger bit : ℕ) (kind : Kind) (number : ℕ) → Accepted r trigger bit → Finishes r bit kind number
-      → clockAnswer columns r trigger bit ≡ clockedAnswer (heldAfter kind number) (finishedBy columns kind number (idleClock (r .core) trigger))
+      → clockAnswer columns r trigger bit ≡ clockedAnswer (heldAfter number) (finishedBy columns kind number (idleClock (r .core) trigger))
 
   -- "Verdict 0: no frame finished on this clock.", and conversely
   abbrev pub VerdictZero : Type 0
@@ -102,11 +118,15 @@ module _ (columns : Kind → List ℕ) where
       (r : Receiver) (trigger bit : ℕ) (kind : Kind) (number : ℕ) → Accepted r trigger bit → Finishes r bit kind number
       → ShowsFrame kind (decodeFrame (columns kind) kind number) (r .core .ids .id) (clockAnswer columns r trigger bit .outputs)
 
-  -- "After a finished frame, of every verdict, the receiver waits for a start bit; the next bit may be one."
   abbrev pub WaitsAfter : Type 0
-  WaitsAfter =
-      (r : Receiver) (trigger bit : ℕ) → clockAnswer columns r trigger bit .outputs .verdict ≢ 0
-      → Waits (clockAnswer columns r trigger bit .receiver)
+  WaitsAfter = (r : Receiver) (trigger bit : ℕ) → WaitsBut7 (clockAnswer columns r trigger bit)
+
+  abbrev pub WantsAfter : Type 0
+  WantsAfter = (r : Receiver) (trigger bit : ℕ) → WantsAfter7 (clockAnswer columns r trigger bit)
+
+  -- where no ones were wanted before
+  abbrev pub WantsExactly : Type 0
+  WantsExactly = (r : Receiver) (trigger bit : ℕ) → Accepted r trigger bit → r .held .wanted ≡ 0 → WantsOnlyAfter7 (clockAnswer columns r trigger bit)
 
   -- ---- steps 1 and 2
 
@@ -172,6 +192,8 @@ pub record ClockLaws (columns : Kind → List ℕ) : Type 0 where
   pub nothing-shown : NothingShown columns
   pub verdict-law : VerdictLaw columns
   pub waits-after : WaitsAfter columns
+  pub wants-after-7 : WantsAfter columns
+  pub wants-exactly : WantsExactly columns
   pub outputs-stand : OutputsStand columns
   pub bus-law : BusLaw columns
   pub sequence-law : SequenceLaw columns

@@ -66,7 +66,7 @@ pub fn step(short: &[u8], long: &[u8], receiver: Receiver, trigger: u8, data: u8
         Taken::Finished { kind, number } => {
             let idle = idle_clock(receiver.core, trigger);
             let frame = decode_finished(short, long, kind, number);
-            answered(finish(kind, frame, idle), held_after(kind, number))
+            answered(finish(kind, frame, idle), held_after(number))
         }
     }
 }

@@ -1,19 +1,21 @@
--- The bits held are the first bits of a frame, or none. Assumes nothing.
+-- The bits held are the first bits of a frame, or ones are wanted, or neither. Assumes nothing.
 use mathlib.Core.Path.{_≡_, refl, sym, ap, subst, _∙_}
-use mathlib.Core.Logic.{_⊎_, inl, inr, ⊎-elim}
+use mathlib.Core.Logic.{_≢_, _⊎_, inl, inr, ⊎-elim}
 use mathlib.Core.Bool.{Bool, true, false}
 use Prim.Native.Nat.{ℕ, zero, suc, _+_, _-_, _*_, _/_, _^_, _<_, _≤_}
 use native.Mathlib.Nat.{pow-suc, le-div-iff-mul-le, div-eq-of-lt-le, mul-le-mul-right}
 use native.Mathlib.Omega.{arith}
-use borrow.Author.Tests.{eq-eqb, eqb-true, lt-ltb, ltb-true, ltb-false}
-use lib.Dec.{ltb}
+use borrow.Author.Tests.{eq-eqb, eqb-true, eqb-false, lt-ltb, ltb-true, ltb-false}
+use lib.Dec.{eqb, ltb}
 use lib.Pow.{pow-pos, pow-add, shl-lt, shr-lt, shl-shr}
+use Rattle.laws.proofs.Rules.{by-test}
+use Rattle.laws.proofs.Tests.{both}
 use Rattle.frame.specs.declared.Kind.the-variants.{Short, Long}
 use Rattle.frame.specs.Numbers.{frameBits, isFrame}
 use Rattle.receiver_state.specs.declared.Held.{Held}
-use Rattle.receiver_state.specs.State.{holding, nothingHeld, isWaiting}
+use Rattle.receiver_state.specs.State.{holding, wantingOnes, nothingHeld, isWaiting}
 use Rattle.receiver_state.specs.WellFormed.{HeldFacts}
-use Rattle.receiver_state.specs.States.{PartOf, HeldLaw, WaitingLaw}
+use Rattle.receiver_state.specs.States.{PartOf, WantsOnes, HeldLaw, WaitingLaw}
 
 -- ---- bits held are the first of a frame: it has 0 for the bits still to come
 
@@ -28,6 +30,7 @@ part-short n bits h b =
       number = bits * 2 ^ k;
       is-frame = lt-ltb _ _ (subst (λ (w : ℕ). bits * 2 ^ k < 2 ^ w) e (shl-lt n k b));
       first-bits = sym (shl-shr bits k);
+      none-wanted = refl;
     }
 
 part-long : (n bits : ℕ) → n < 40 → 2 ^ n ≤ bits → bits < 2 ^ suc n → PartOf Long (holding (suc (suc n)) bits)
@@ -45,19 +48,21 @@ part-long n bits h low b =
       number = bits * 2 ^ k;
       is-frame = eq-eqb _ _ (div-eq-of-lt-le {k = 1} (2 ^ 40) {m = bits * 2 ^ k} (omega arith) (omega arith));
       first-bits = sym (shl-shr bits k);
+      none-wanted = refl;
     }
 
 -- a single bit held is the start bit
 part-start : PartOf Short (holding 1 0)
 unfolding isFrame
-part-start = record { some = omega arith; unfinished = omega arith; number = 0; is-frame = refl; first-bits = refl }
+part-start = record { some = omega arith; unfinished = omega arith; number = 0; is-frame = refl; first-bits = refl; none-wanted = refl }
 
 abbrev Paper : Held → Type 0
-Paper h = (h ≡ nothingHeld) ⊎ (PartOf Short h ⊎ PartOf Long h)
+Paper h = (h ≡ nothingHeld) ⊎ (WantsOnes h ⊎ (PartOf Short h ⊎ PartOf Long h))
 
 paper : (count bits : ℕ) → HeldFacts (holding count bits) → Paper (holding count bits)
 paper zero bits f = inl (ap (holding 0) (let s : bits * 2 < 2 ^ 0 = f .start in omega arith))
-paper (suc zero) bits f = inr (inl (subst (λ (b : ℕ). PartOf Short (holding 1 b)) (let s : bits * 2 < 2 ^ 1 = f .start in omega arith) part-start))
+paper (suc zero) bits f =
+    inr (inr (inl (subst (λ (b : ℕ). PartOf Short (holding 1 b)) (let s : bits * 2 < 2 ^ 1 = f .start in omega arith) part-start)))
 paper (suc (suc n)) bits f = by-format (ltb bits (2 ^ n)) refl
   where
     top : 2 ^ suc (suc n) ≡ 4 * 2 ^ n
@@ -66,10 +71,10 @@ paper (suc (suc n)) bits f = by-format (ltb bits (2 ^ n)) refl
     by-format : (t : Bool) → ltb bits (2 ^ n) ≡ t → Paper (holding (suc (suc n)) bits)
     by-format true e =
         let b : bits < 2 ^ n = ltb-true bits (2 ^ n) e in
-        inr (inl (part-short n bits (⊎-elim (λ l. omega arith) (λ l. absurd (omega (arith, top, l))) (f .format)) b))
+        inr (inr (inl (part-short n bits (⊎-elim (λ l. omega arith) (λ l. absurd (omega (arith, top, l))) (f .format)) b)))
     by-format false e =
         let b : 2 ^ n ≤ bits = ltb-false bits (2 ^ n) e in
-        inr (inr (part-long n bits (omega (arith, f .few)) b (omega (arith, f .start, pow-suc 2 n, pow-suc 2 (suc n)))))
+        inr (inr (inr (part-long n bits (omega (arith, f .few)) b (omega (arith, f .start, pow-suc 2 n, pow-suc 2 (suc n))))))
 
 -- ---- the first bits of a frame
 
@@ -95,6 +100,8 @@ short-facts h p =
       few = omega (arith, p .unfinished);
       start = start-of (h .count) k (h .bits) (p .number) (p .some) (p .first-bits) (subst (λ (w : ℕ). p .number < 2 ^ w) (sym e) (omega arith));
       format = inl (p .unfinished);
+      few-wanted = omega (arith, p .none-wanted);
+      none-beside = inr (p .none-wanted);
     }
 
 long-facts : (h : Held) → PartOf Long h → HeldFacts h
@@ -107,6 +114,8 @@ long-facts h p =
       few = omega (arith, p .unfinished);
       start = start-of (h .count) k (h .bits) (p .number) (p .some) (p .first-bits) (subst (λ (w : ℕ). p .number < 2 ^ w) (sym e) (omega arith));
       format = by-count (ltb (h .count) 16) refl;
+      few-wanted = omega (arith, p .none-wanted);
+      none-beside = inr (p .none-wanted);
     }
   where
     by-count : (t : Bool) → ltb (h .count) 16 ≡ t → (h .count < 16) ⊎ (2 ^ h .count ≤ h .bits * 4)
@@ -118,21 +127,53 @@ long-facts h p =
         let e′ : (h .count - 2) + k ≡ 40 = omega (arith, p .unfinished) in
         inr (format-of (h .count) k (h .bits) (p .number) (omega arith) (p .first-bits) (subst (λ (w : ℕ). 2 ^ w ≤ p .number) (sym e′) (omega arith)))
 
+pub wanting-facts : (wanted : ℕ) → wanted ≤ 41 → HeldFacts (wantingOnes wanted)
+wanting-facts wanted h = record { few = omega arith; start = omega arith; format = inl (omega arith); few-wanted = h; none-beside = inl refl }
+
 pub none-facts : HeldFacts nothingHeld
-none-facts = record { few = omega arith; start = omega arith; format = inl (omega arith) }
+none-facts = wanting-facts 0 (omega arith)
+
+-- ---- with no frame bit held, or no ones wanted
+
+-- no frame bit is held
+pub no-bit : (h : Held) → HeldFacts h → h .count ≡ 0 → h ≡ wantingOnes (h .wanted)
+no-bit h f z =
+    let none : h .bits ≡ 0 = (let s : h .bits * 2 < 2 ^ 0 = rw z at (f .start) in omega arith) in
+    rw (z, none) refl
+
+-- beside frame bits no ones are wanted
+pub some-bits : (h : Held) → HeldFacts h → h .count ≢ 0 → h ≡ holding (h .count) (h .bits)
+some-bits h f n = ⊎-elim (λ z. absurd (n z)) (λ z. rw z refl) (f .none-beside)
 
 -- ---- waiting
 
-none-held : (count bits : ℕ) → count ≡ 0 → HeldFacts (holding count bits) → holding count bits ≡ nothingHeld
-none-held zero bits z f = ap (holding 0) (let s : bits * 2 < 2 ^ 0 = f .start in omega arith)
-none-held (suc count) bits z f = absurd (omega arith)
-
 pub waiting-law : WaitingLaw
 unfolding isWaiting
-waiting-law h f = (λ e. none-held (h .count) (h .bits) (eqb-true (h .count) 0 e) f, λ e. rw e refl)
+waiting-law h f = (
+  λ e. let z = both _ _ e in no-bit h f (eqb-true (h .count) _ (z .0)) ∙ ap wantingOnes (eqb-true (h .wanted) _ (z .1)),
+  λ e. rw e refl,
+)
+
+-- ---- the law
+
+wants : (h : Held) → HeldFacts h → h .count ≡ 0 → h .wanted ≢ 0 → WantsOnes h
+wants h f z n = record { some = omega (arith, n); at-most-41 = f .few-wanted; no-bit-held = no-bit h f z }
+
+of-facts : (h : Held) → HeldFacts h → Paper h
+of-facts h f =
+    by-test (eqb (h .count) 0)
+    (λ c. by-test (eqb (h .wanted) 0)
+    (λ w. inl (no-bit h f (eqb-true (h .count) 0 c) ∙ ap wantingOnes (eqb-true (h .wanted) 0 w)))
+    (λ w. inr (inl (wants h f (eqb-true (h .count) 0 c) (eqb-false (h .wanted) 0 w)))))
+    (λ c.
+    let e = some-bits h f (eqb-false (h .count) 0 c) in
+    subst Paper (sym e) (paper (h .count) (h .bits) (subst HeldFacts e f)))
+
+wants-facts : (h : Held) → WantsOnes h → HeldFacts h
+wants-facts h w = subst HeldFacts (sym (w .no-bit-held)) (wanting-facts (h .wanted) (w .at-most-41))
 
 pub held-law : HeldLaw
 held-law h = (
-  λ f. paper (h .count) (h .bits) f,
-  ⊎-elim (λ e. subst HeldFacts (sym e) none-facts) (⊎-elim (short-facts h) (long-facts h)),
+  of-facts h,
+  ⊎-elim (λ e. subst HeldFacts (sym e) none-facts) (⊎-elim (wants-facts h) (⊎-elim (short-facts h) (long-facts h))),
 )

@@ -15,7 +15,7 @@ use Rattle.receiver_state.specs.declared.Sequence.{Sequence}
 use Rattle.receiver_state.specs.declared.Core.{Core}
 use Rattle.receiver_state.specs.declared.Held.{Held}
 use Rattle.receiver_state.specs.declared.Receiver.{Receiver}
-use Rattle.receiver_state.specs.WellFormed.{idsOk, settingsOk, countersOk, sequenceOk, coreOk, heldOk, wellFormed}
+use Rattle.receiver_state.specs.WellFormed.{idsOk, settingsOk, countersOk, sequenceOk, coreOk, bitsOk, wantedOk, heldOk, wellFormed}
 use Rattle.receiver_state.specs.WellFormed.{IdsFacts, SettingsFacts, CountersFacts, SequenceFacts, CoreFacts, HeldFacts, ReceiverFacts}
 
 -- ---- one of two tests
@@ -103,19 +103,31 @@ core-ok core f =
     passed→every _ (ids-ok (core .ids) (f .of-ids), (settings-ok (core .settings) (f .of-settings), (counters-ok (core .counters) (f .of-counters), (sequence-ok (core .sequence) (f .of-sequence), (le-leb _ _ (f .flag), tt)))))
 
 held-facts : (h : Held) → heldOk h ≡ true → HeldFacts h
-unfolding heldOk
+unfolding heldOk bitsOk wantedOk
 held-facts h e =
-    let p = every→passed _ e in
+    let parts = every→passed _ e in
+    let p = every→passed _ (parts .0) in
+    let w = every→passed _ (parts .1 .0) in
     record {
       few = search (leb-true, p .0);
       start = search (ltb-true, p .1 .0);
       format = ⊎-map (ltb-true _ _) (leb-true _ _) (either _ _ (p .1 .1 .0));
+      few-wanted = search (leb-true, w .0);
+      none-beside = ⊎-map (eqb-true _ _) (eqb-true _ _) (either _ _ (w .1 .0));
     }
+
+bits-ok : (h : Held) → HeldFacts h → bitsOk (h .count) (h .bits) ≡ true
+unfolding bitsOk
+bits-ok h f =
+    passed→every _ (le-leb _ _ (f .few), (lt-ltb _ _ (f .start), (one-of _ _ (⊎-map (lt-ltb _ _) (le-leb _ _) (f .format)), tt)))
+
+wanted-ok : (h : Held) → HeldFacts h → wantedOk (h .count) (h .wanted) ≡ true
+unfolding wantedOk
+wanted-ok h f = passed→every _ (le-leb _ _ (f .few-wanted), (one-of _ _ (⊎-map (eq-eqb _ _) (eq-eqb _ _) (f .none-beside)), tt))
 
 held-ok : (h : Held) → HeldFacts h → heldOk h ≡ true
 unfolding heldOk
-held-ok h f =
-    passed→every _ (le-leb _ _ (f .few), (lt-ltb _ _ (f .start), (one-of _ _ (⊎-map (lt-ltb _ _) (le-leb _ _) (f .format)), tt)))
+held-ok h f = passed→every _ (bits-ok h f, (wanted-ok h f, tt))
 
 -- ---- the whole state
 

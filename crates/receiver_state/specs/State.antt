@@ -1,6 +1,6 @@
 -- Document 01, "Registers": the fresh state, and states with one part changed. `Receiver` and its parts are the structs of src/lib.rt.
 use Prim.Native.Nat.{ℕ, _+_, _*_, _%_, _^_}
-use mathlib.Core.Bool.{Bool, cond}
+use mathlib.Core.Bool.{Bool, cond, _&&_}
 use lib.Dec.{eqb, ltb}
 use Rattle.receiver_state.specs.declared.Ids.{Ids}
 use Rattle.receiver_state.specs.declared.Settings.{Settings}
@@ -31,17 +31,22 @@ wordsLeft left event = record { left = left; event = event }
 abbrev pub noSequence : Sequence
 noSequence = wordsLeft 0 0
 
--- so many bits of a frame are held, with this number
+-- so many bits of a frame are held, with this number, and no ones are wanted
 abbrev pub holding : ℕ → ℕ → Held
-holding count bits = record { count = count; bits = bits }
+holding count bits = record { count = count; wanted = 0; bits = bits }
 
--- no frame bit is held
+-- document 02, Q-1: "the ones still wanted"; no frame bit is held beside them
+abbrev pub wantingOnes : ℕ → Held
+wantingOnes wanted = record { count = 0; wanted = wanted; bits = 0 }
+
+-- no frame bit is held, and no ones are wanted: "0 when waiting"
 abbrev pub nothingHeld : Held
 nothingHeld = holding 0 0
 
--- the receiver waits for a start bit. `Waits` of the crate `channel_b` is 01's term, and `WaitsLaw` there says that the two agree.
+-- the receiver waits for a start bit: no frame bit is held, and no ones are wanted. `Waits` of the crate `channel_b` is 01's term, and `WaitsLaw`
+-- there says that the two agree.
 unfoldable pub isWaiting : Held → Bool
-isWaiting held = eqb (held .count) 0
+isWaiting held = eqb (held .count) 0 && eqb (held .wanted) 0
 
 abbrev pub receiver : Core → Held → Receiver
 receiver core held = record { core = core; held = held }

@@ -1,4 +1,4 @@
--- Document 01, "Well formed" and "Registers" (fresh): what holds of such states. Proved in proofs/States.antt, `HeldLaw` and `WaitingLaw` in proofs/HeldBits.antt.
+-- Document 01, "Well formed" and "Registers" (fresh), with document 02, Q-1: what holds of such states. Proved in proofs/States.antt, `HeldLaw` and `WaitingLaw` in proofs/HeldBits.antt.
 use Prim.Native.Nat.{ℕ, _/_, _-_, _^_, _<_, _≤_}
 use mathlib.Core.Path.{_≡_}
 use mathlib.Core.Logic.{_⊎_, _↔_}
@@ -9,7 +9,7 @@ use Rattle.frame.specs.Numbers.{frameBits, isFrame}
 use Rattle.receiver_state.specs.declared.Ids.{Ids}
 use Rattle.receiver_state.specs.declared.Held.{Held}
 use Rattle.receiver_state.specs.declared.Receiver.{Receiver}
-use Rattle.receiver_state.specs.State.{ids, nothingHeld, isWaiting, statusByte, freshCore, freshState, freshOf, refusedFresh, freshAnswer}
+use Rattle.receiver_state.specs.State.{ids, wantingOnes, nothingHeld, isWaiting, statusByte, freshCore, freshState, freshOf, refusedFresh, freshAnswer}
 use Rattle.receiver_state.specs.WellFormed.{wellFormed, HeldFacts, ReceiverFacts}
 
 -- ---- well formed
@@ -26,12 +26,19 @@ pub record PartOf (kind : Kind) (h : Held) : Type 0 where
   pub number : ℕ
   pub is-frame : isFrame kind number ≡ true
   pub first-bits : h .bits ≡ number / 2 ^ (frameBits kind - h .count)
+  pub none-wanted : h .wanted ≡ 0
 
--- the three tests of the held bits are the paper's words: "the receiver is waiting, or holds" such bits
+-- document 02, Q-1: ones are "still wanted", not "over 41", and not "beside held frame bits"
+pub record WantsOnes (h : Held) : Type 0 where
+  pub some : 1 ≤ h .wanted
+  pub at-most-41 : h .wanted ≤ 41
+  pub no-bit-held : h ≡ wantingOnes (h .wanted)
+
+-- the tests of what is held are the papers' words: "the receiver is waiting", or wants ones, "or holds" such bits
 abbrev pub HeldLaw : Type 0
-HeldLaw = (h : Held) → HeldFacts h ↔ ((h ≡ nothingHeld) ⊎ (PartOf Short h ⊎ PartOf Long h))
+HeldLaw = (h : Held) → HeldFacts h ↔ ((h ≡ nothingHeld) ⊎ (WantsOnes h ⊎ (PartOf Short h ⊎ PartOf Long h)))
 
--- a receiver that waits holds nothing
+-- a receiver that waits holds no frame bit and wants no ones
 abbrev pub WaitingLaw : Type 0
 WaitingLaw = (h : Held) → HeldFacts h → (isWaiting h ≡ true) ↔ (h ≡ nothingHeld)
 
@@ -49,7 +56,7 @@ stateOf id i2c control config2 config3 status5 =
             counters = record { bunch = 0; event = 0 };
             sequence = record { left = 0; event = 0 };
           };
-      held = record { count = 0; bits = 0 };
+      held = record { count = 0; wanted = 0; bits = 0 };
     }
 
 pub record FreshLaws : Type 0 where

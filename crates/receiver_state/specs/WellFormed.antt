@@ -1,4 +1,4 @@
--- Document 01, "Well formed": the tests of a state, for refusal 2, and the same as facts, for the proofs. `WellFormedLaw` of States.antt says
+-- Document 01, "Well formed", with document 02, Q-1: the tests of a state, for refusal 2, and the same as facts, for the proofs. `WellFormedLaw` of States.antt says
 -- that they agree.
 use Prim.Native.Nat.{ℕ, _*_, _%_, _^_, _<_, _≤_}
 use mathlib.Core.Path.{_≡_}
@@ -49,15 +49,17 @@ coreOk core =
     ∷ [])
 
 -- "the receiver is waiting, or holds 1 to 15 bits of a short or 1 to 41 of a long frame, start and format as required, and no bits beyond":
--- at most 41 bits; the first is 0, no bit stands beyond, and waiting holds none; from 16 bits on the second is 1.
--- `HeldLaw` of States.antt says it in the paper's words.
+-- at most 41 bits; the first is 0, no bit stands beyond, and with no bit held the number is 0; from 16 bits on the second is 1
+unfoldable pub bitsOk : ℕ → ℕ → Bool
+bitsOk count bits = every (leb count 41 ∷ ltb (bits * 2) (2 ^ count) ∷ (ltb count 16 || leb (2 ^ count) (bits * 4)) ∷ [])
+
+-- document 02, Q-1: "The state gains the ones still wanted, 0 when waiting; over 41, or over 0 beside held frame bits, is not well formed."
+unfoldable pub wantedOk : ℕ → ℕ → Bool
+wantedOk count wanted = every (leb wanted 41 ∷ (eqb count 0 || eqb wanted 0) ∷ [])
+
+-- `HeldLaw` of States.antt says both in the papers' words
 unfoldable pub heldOk : Held → Bool
-heldOk h =
-    every
-    (leb (h .count) 41
-    ∷ ltb (h .bits * 2) (2 ^ h .count)
-    ∷ (ltb (h .count) 16 || leb (2 ^ h .count) (h .bits * 4))
-    ∷ [])
+heldOk h = every (bitsOk (h .count) (h .bits) ∷ wantedOk (h .count) (h .wanted) ∷ [])
 
 unfoldable pub wellFormed : Receiver → Bool
 wellFormed r = every (coreOk (r .core) ∷ heldOk (r .held) ∷ [])
@@ -93,6 +95,8 @@ pub record HeldFacts (h : Held) : Type 0 where
   pub few : h .count ≤ 41
   pub start : h .bits * 2 < 2 ^ h .count
   pub format : (h .count < 16) ⊎ (2 ^ h .count ≤ h .bits * 4)
+  pub few-wanted : h .wanted ≤ 41
+  pub none-beside : (h .count ≡ 0) ⊎ (h .wanted ≡ 0)
 
 pub record ReceiverFacts (r : Receiver) : Type 0 where
   pub of-core : CoreFacts (r .core)

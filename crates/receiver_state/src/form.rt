@@ -1,7 +1,8 @@
-// Document 01, "Well formed": the tests of each part of a state, in the paper's order.
+// Document 01, "Well formed", with document 02, Q-1: the tests of each part of a state, in the paper's
+// order.
 ghost use mathlib.Core.Path.{_≡_};
 ghost use Prim.Native.Nat.{_<_, _^_};
-ghost use Rattle.receiver_state.specs.WellFormed.{idsOk, settingsOk, countersOk, sequenceOk, coreOk, heldOk};
+ghost use Rattle.receiver_state.specs.WellFormed.{idsOk, settingsOk, countersOk, sequenceOk, coreOk, bitsOk, wantedOk, heldOk};
 use crate::Core;
 use crate::Counters;
 use crate::Held;
@@ -72,12 +73,23 @@ fn power(n: u8) -> u64
     1u64 << n
 }
 
-// At most 41 bits are held; the first is 0, and none is beyond; from 16 bits on the second is 1.
-pub(crate) fn held_ok(held: Held) -> bool
-    ensures { λ r. ⌜ r ≡ heldOk held ⌝ }
+// At most 41 ones are wanted, and none beside frame bits held.
+fn wanted_ok(count: u8, wanted: u8) -> bool
+    ensures { λ r. ⌜ r ≡ wantedOk count wanted ⌝ }
 {
-    let count = held.count;
-    let bits = held.bits;
+    if wanted == 0 {
+        return true;
+    }
+    if wanted > 41 {
+        return false;
+    }
+    count == 0
+}
+
+// At most 41 bits are held; the first is 0, and none is beyond; from 16 bits on the second is 1.
+fn bits_ok(count: u8, bits: u64) -> bool
+    ensures { λ r. ⌜ r ≡ bitsOk count bits ⌝ }
+{
     if count > 41 {
         return false;
     }
@@ -90,4 +102,14 @@ pub(crate) fn held_ok(held: Held) -> bool
         return false;
     }
     count < 16 || bits * 4 >= limit
+}
+
+// Frame bits held, or ones wanted, or neither.
+pub(crate) fn held_ok(held: Held) -> bool
+    ensures { λ r. ⌜ r ≡ heldOk held ⌝ }
+{
+    if !bits_ok(held.count, held.bits) {
+        return false;
+    }
+    wanted_ok(held.count, held.wanted)
 }

@@ -4,7 +4,7 @@
 // It goes by value: it is some 50 bytes of plain data, a refusal hands it back as it came, and a
 // caller may keep any copy. Its parts are nested by what changes together. A field that "Well
 // formed" has no clause for has a type that is exactly as wide as document 01's range, so that the
-// test has the paper's clauses and no others.
+// test has the papers' clauses and no others.
 ghost use mathlib.Core.Path.{_≡_};
 ghost use Rattle.receiver_state.specs.State.{receiver, nothingHeld, isWaiting, newCore, freshCore, freshOf, refusedFresh, freshAnswer};
 ghost use Rattle.receiver_state.specs.Shown.{noOutputs};
@@ -52,7 +52,7 @@ pub struct Sequence {
     pub event: u32,
 }
 
-// All of a receiver but the frame bits that it holds.
+// All of a receiver but what it keeps of channel B.
 #[repr(C)]
 pub struct Core {
     pub ids: Ids,
@@ -62,10 +62,12 @@ pub struct Core {
     pub sequence: Sequence,
 }
 
-// The bits of an unfinished frame, the first received most significant; none while waiting.
+// What is kept of channel B: the bits of an unfinished frame, the first received most significant; or
+// the ones still wanted after a frame with stop bit 0. While waiting, neither.
 #[repr(C)]
 pub struct Held {
     pub count: u8,
+    pub wanted: u8,
     pub bits: u64,
 }
 
@@ -118,7 +120,7 @@ pub fn no_outputs() -> Outputs
 pub fn is_waiting(held: Held) -> bool
     ensures { λ r. ⌜ r ≡ isWaiting held ⌝ }
 {
-    held.count == 0
+    held.count == 0 && held.wanted == 0
 }
 
 // Whether the state is one that a clock accepts.
@@ -148,7 +150,7 @@ fn core_of(ids: Ids, settings: Settings, status5: u8) -> Core
     }
 }
 
-// The fresh state of these IDs, but for the frame bits held.
+// The fresh state of these IDs, but for what is kept of channel B.
 pub fn fresh_core(ids: Ids) -> Core
     ensures { λ r. ⌜ r ≡ freshCore ids ⌝ }
 {
@@ -166,7 +168,11 @@ pub fn fresh_core(ids: Ids) -> Core
 fn fresh_answer(refusal: u8, core: Core) -> FreshAnswer
     ensures { λ r. ⌜ r ≡ freshOf refusal (receiver core nothingHeld) ⌝ }
 {
-    let held = Held { count: 0, bits: 0 };
+    let held = Held {
+        count: 0,
+        wanted: 0,
+        bits: 0,
+    };
     let receiver = Receiver { core, held };
     FreshAnswer { refusal, receiver }
 }

@@ -46,7 +46,7 @@ writeRefusal number value =
     0))
     5
 
--- the frame bits held stay
+-- what is held of channel B stays
 abbrev pub writtenTo : Receiver → Core → WriteAnswer
 writtenTo r core = record { refusal = 0; receiver = receiver core (r .held) }
 

@@ -11,21 +11,23 @@ use Rattle.frame.specs.declared.Kind.{Kind}
 use Rattle.receiver_state.specs.declared.Core.{Core}
 use Rattle.receiver_state.specs.declared.Held.{Held}
 use Rattle.receiver_state.specs.declared.Clocked.{Clocked}
-use Rattle.receiver_state.specs.State.{receiver}
+use Rattle.receiver_state.specs.State.{wantingOnes, receiver}
 use Rattle.receiver_state.specs.WellFormed.{ReceiverFacts}
+use Rattle.receiver_state.proofs.HeldBits.{no-bit}
 use Rattle.idle_clock.specs.IdleClock.{idleClock}
 use Rattle.idle_clock.specs.AtRest.{atRest}
 use Rattle.idle_clock.proofs.AtRest.{rest-laws}
 use Rattle.channel_b.specs.declared.Taken.the-variants.{Unfinished}
 use Rattle.channel_b.specs.TakeBit.{takeBit}
 use Rattle.channel_b.proofs.TakeBit.{TakenFacts, taken-facts}
+use Rattle.channel_b.proofs.Bits.{bit-law}
 use Rattle.receiver.specs.declared.ClockAnswer.{ClockAnswer}
 use Rattle.receiver.specs.Clock.{clockedAnswer, stepAnswer}
 use Rattle.receiver.proofs.Unchecked.{unfinished-step}
 use Rattle.trace.specs.declared.Running.{Running}
 use Rattle.trace.specs.declared.Progress.{Progress}
 use Rattle.trace.specs.Block.{triggerBit, channelBit}
-use Rattle.trace.specs.Run.{runDone, leaves, answeredRun, clocksRun, ProgressFacts, remaining, restRun, restProgress, Rested, Advanced}
+use Rattle.trace.specs.Run.{runDone, leaves, answeredRun, clocksRun, ProgressFacts, remaining, restRun, restProgress, idleProgress, Rested, Advanced}
 use Rattle.trace.proofs.Run.{nothing-recorded, without-record, clock-turn, turn-facts, turn-records}
 
 -- clocks one after the other
@@ -107,6 +109,48 @@ module _ (progress : Progress) (block : List ℕ) where
         going = record { well-formed = q .facts; within = q .high; few = omega (arith, g .few, q .low); at-most = g .at-most };
         onward = q .low;
       })
+
+-- ---- idle clocks with no frame bit held
+
+-- the clocks before this place were idle
+abbrev pub IdleTo : Progress → List ℕ → ℕ → Type 0
+IdleTo progress block at = RestTo progress block (wantingOnes (progress .run .receiver .held .wanted - (at - progress .next))) at
+
+module _ (progress : Progress) (block : List ℕ) (g : ProgressFacts progress block) where
+  abbrev wanted : ℕ
+  wanted = progress .run .receiver .held .wanted
+
+  pub idle-first : progress .run .receiver .held .count ≡ 0 → IdleTo progress block (progress .next)
+  idle-first none =
+      let nothing : wanted ≡ wanted - (progress .next - progress .next) = omega arith in
+      subst (λ (held : Held). RestTo progress block held (progress .next)) (no-bit (progress .run .receiver .held) (g .well-formed .of-held) none ∙ ap wantingOnes nothing)
+      (rest-first progress block g)
+
+  -- byte 2 is an idle clock without a trigger
+  pub idle-next : atRest (progress .run .receiver .core) ≡ true → (at : ℕ) → IdleTo progress block at → at < length block → getD block at 0 ≡ 2
+      → IdleTo progress block (at + 1)
+  idle-next resting at q here two =
+      let n = wanted - (at - progress .next) in
+      let fewer : n - 1 ≡ wanted - ((at + 1) - progress .next) = omega (arith, q .low) in
+      rest-next progress block (g .well-formed) (wantingOnes n) (wantingOnes (wanted - ((at + 1) - progress .next))) at q resting here
+      (ap triggerBit two)
+      (ap (λ (byte : ℕ). takeBit (wantingOnes n) (channelBit byte)) two ∙ bit-law .one-wanted n ∙ ap (λ (k : ℕ). Unfinished (wantingOnes k)) fewer)
+
+  pub idle-last : atRest (progress .run .receiver .core) ≡ true → (at : ℕ) → IdleTo progress block at → (after : Progress) → after ≡ idleProgress at progress
+      → (Rested block progress after) × (atRest (after .run .receiver .core) ≡ true)
+  idle-last resting at q after e = (
+    rest-last progress block _ at g q after e,
+    subst (λ (x : Progress). atRest (x .run .receiver .core) ≡ true) (sym e) (rest-laws .stays-at-rest (at - progress .next) (progress .run .receiver .core) ∙ resting),
+  )
+
+-- one part after another
+pub rested-then : (block : List ℕ) (before between after : Progress) → Rested block before between → Rested block between after → Rested block before after
+rested-then block before between after p q =
+    record {
+      same = λ columns buffer. q .same columns buffer ∙ p .same columns buffer;
+      going = q .going;
+      onward = omega (arith, p .onward, q .onward);
+    }
 
 -- ---- clocks at rest, and the clock behind them
 

@@ -8,7 +8,7 @@ use lib.Seq.{sets}
 use Rattle.frame.specs.declared.Kind.{Kind}
 use Rattle.receiver_state.specs.declared.Held.{Held}
 use Rattle.receiver_state.specs.declared.Receiver.{Receiver}
-use Rattle.receiver_state.specs.State.{receiver}
+use Rattle.receiver_state.specs.State.{wantingOnes, receiver}
 use Rattle.receiver_state.specs.WellFormed.{ReceiverFacts}
 use Rattle.idle_clock.specs.AtRest.{restFor}
 use Rattle.receiver.specs.declared.ClockAnswer.{ClockAnswer}
@@ -63,13 +63,18 @@ pub record ProgressFacts (progress : Progress) (block : List ℕ) : Type 0 where
 abbrev pub remaining : (Kind → List ℕ) → List ℕ → Progress → List ℕ → RunDone
 remaining columns block progress buffer = clocksRun columns (progress .next) (progress .run) (drop (progress .next) block) buffer
 
--- so many clocks at rest that finish no frame, with these bits held after them: only the bunch counter and the bits held move
+-- so many clocks at rest that finish no frame, with this held after them: only the bunch counter and what is held move
 abbrev pub restRun : ℕ → Held → Running → Running
 restRun clocks held run = record { receiver = receiver (restFor clocks (run .receiver .core)) held; records = run .records }
 
 -- those from the next one up to a place
 abbrev pub restProgress : ℕ → Held → Progress → Progress
 restProgress place held progress = record { run = restRun (place - progress .next) held (progress .run); next = place }
+
+-- the same where each was idle and no frame bit is held: as many ones have come
+abbrev pub idleProgress : ℕ → Progress → Progress
+idleProgress place progress =
+    restProgress place (wantingOnes (progress .run .receiver .held .wanted - (place - progress .next))) progress
 
 -- some clocks were done, or none, and wrote no record. No frame finished, so this is so whatever the columns are.
 pub record Rested (block : List ℕ) (before after : Progress) : Type 0 where

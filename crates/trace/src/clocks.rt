@@ -14,7 +14,7 @@ ghost use Rattle.verdicts.specs.Finished.{finishedBy};
 ghost use Rattle.receiver.specs.Clock.{clockedAnswer, stepAnswer};
 ghost use Rattle.trace.specs.Record.{recordNumbers};
 ghost use Rattle.trace.specs.Block.{triggerBit, channelBit, blockClocks, noByteOver3};
-ghost use Rattle.trace.specs.Run.{leaves, answeredRun, clocksRun, atStart, ProgressFacts, restProgress, Rested, Advanced};
+ghost use Rattle.trace.specs.Run.{leaves, answeredRun, clocksRun, atStart, ProgressFacts, restProgress, idleProgress, Rested, Advanced};
 use crate::Progress;
 use crate::Running;
 use crate::record_of;
@@ -22,6 +22,7 @@ use crate::records::add_record;
 use channel_b::Taken;
 use channel_b::held_after;
 use channel_b::take_bit;
+use channel_b::take_ones;
 use frame::Kind;
 use frame::decode_finished;
 use idle_clock::at_rest;
@@ -46,7 +47,7 @@ pub(crate) fn no_byte_over_3(block: &[u8]) -> bool
     over == 0
 }
 
-// A clock that finishes no frame: steps 1 and 2, and the bits then held. It has a record only if a
+// A clock that finishes no frame: steps 1 and 2, and what is then held. It has a record only if a
 // trigger came.
 fn run_unfinished(run: Running, held: Held, place: u32, trigger: u8, buffer: &mut [u32]) -> Running
     requires { ⌜ (trigger < 2) × (recordNumbers * run .records + recordNumbers ≤ length (now buffer)) ⌝ }
@@ -83,14 +84,14 @@ fn run_finished(
     buffer: &mut [u32],
 ) -> Running
     requires { ⌜ recordNumbers * run .records + recordNumbers ≤ length (now buffer) ⌝ }
-    ensures { λ r. ⌜ leaves r (now (buffer .exit)) ≡ answeredRun run place (clockedAnswer (heldAfter kind number) (finishedBy (columnsFor (inUse (now (short .entry))) (inUse (now (long .entry)))) kind number (idleClock (run .receiver .core) trigger))) (now (buffer .entry)) ⌝ }
+    ensures { λ r. ⌜ leaves r (now (buffer .exit)) ≡ answeredRun run place (clockedAnswer (heldAfter number) (finishedBy (columnsFor (inUse (now (short .entry))) (inUse (now (long .entry)))) kind number (idleClock (run .receiver .core) trigger))) (now (buffer .entry)) ⌝ }
 {
     let before = run.receiver.core.counters;
     let frame = decode_finished(short, long, kind, number);
     let clocked = finish(kind, frame, idle_clock(run.receiver.core, trigger));
     let core = clocked.core;
     let outputs = clocked.outputs;
-    let held = held_after(kind, number);
+    let held = held_after(number);
     let receiver = Receiver { core, held };
     add_record(
         receiver,
@@ -142,7 +143,7 @@ fn run_clock(
     }
 }
 
-// Where clocks at rest lead, up to a place: only the bunch counter and the bits held have moved.
+// Where clocks at rest lead, up to a place: only the bunch counter and what is held have moved.
 fn after_rest(progress: Progress, place: usize, held: Held) -> Progress
     requires { ⌜ progress .next ≤ place ⌝ }
     ensures { λ r. ⌜ r ≡ restProgress place held progress ⌝ }
@@ -179,6 +180,44 @@ fn run_rest(progress: Progress, block: &[u8]) -> Progress
     after_rest(progress, at, held)
 }
 
+// Where idle clocks at rest lead, up to a place, with no frame bit held: each has brought a one.
+fn after_idle(progress: Progress, place: usize) -> Progress
+    requires { ⌜ progress .next ≤ place ⌝ }
+    ensures { λ r. ⌜ r ≡ idleProgress place progress ⌝ }
+{
+    let wanted = progress.run.receiver.held.wanted;
+    let held = take_ones(wanted, place - progress.next);
+    after_rest(progress, place, held)
+}
+
+// The idle clocks that come next, where the core is at rest and no frame bit is held. Byte 2 is a
+// clock with channel B at 1 and no trigger. The loop only looks for the end of such bytes, and does
+// not look at the ones wanted.
+fn run_idle(progress: Progress, block: &[u8]) -> Progress
+    requires { ⌜ (ProgressFacts progress (now block)) × (atRest (progress .run .receiver .core) ≡ true) × (progress .run .receiver .held .count ≡ 0) ⌝ }
+    ensures { λ r. ⌜ (Rested (now (block .entry)) progress r) × (atRest (r .run .receiver .core) ≡ true) ⌝ }
+{
+    let mut at = progress.next;
+    while at < block.len() {
+        if block[at] != 2 {
+            return after_idle(progress, at);
+        }
+        at += 1;
+    }
+    after_idle(progress, at)
+}
+
+// The same, or nothing where a frame bit is held.
+fn idle_part(progress: Progress, block: &[u8]) -> Progress
+    requires { ⌜ (ProgressFacts progress (now block)) × (atRest (progress .run .receiver .core) ≡ true) ⌝ }
+    ensures { λ r. ⌜ (Rested (now (block .entry)) progress r) × (atRest (r .run .receiver .core) ≡ true) ⌝ }
+{
+    if progress.run.receiver.held.count == 0 {
+        return run_idle(progress, block);
+    }
+    progress
+}
+
 // The clocks at rest that come next, if any. A trigger is tested first: where triggers are frequent
 // it is the reason that there are none.
 fn rest_part(progress: Progress, block: &[u8]) -> Progress
@@ -192,7 +231,8 @@ fn rest_part(progress: Progress, block: &[u8]) -> Progress
     if !at_rest(progress.run.receiver.core) {
         return progress;
     }
-    run_rest(progress, block)
+    let idle = idle_part(progress, block);
+    run_rest(idle, block)
 }
 
 // Goes on by the clocks at rest that come next, and the clock after them.

@@ -1,9 +1,11 @@
--- A whole frame on a waiting receiver, without triggers: its clocks but the last only count, and the last one finishes it. Assumes nothing.
+-- A whole frame on a waiting receiver, without triggers: its clocks but the last only count, and the last one finishes it. And as many ones as a
+-- receiver wants. Assumes nothing.
 use mathlib.Core.Path.{_≡_, refl, sym, ap, ap₂, subst, _∙_}
 use mathlib.Core.Bool.{true}
 use mathlib.Core.List.{List}
+use lib.ListN.{replicate}
 use Prim.Native.Nat.{ℕ, zero, suc, _+_, _-_, _/_, _%_, _^_, _≤_, _<_}
-use native.Mathlib.Nat.{add-zero, mod-lt}
+use native.Mathlib.Nat.{add-zero, zero-add, mod-lt}
 use native.Mathlib.Numerals.{add-one}
 use native.Mathlib.Omega.{arith}
 use lib.Dec.{lit<, lit≤}
@@ -16,13 +18,14 @@ use Rattle.receiver_state.specs.declared.Core.{Core}
 use Rattle.receiver_state.specs.declared.Clocked.{Clocked}
 use Rattle.receiver_state.specs.declared.Held.{Held}
 use Rattle.receiver_state.specs.declared.Receiver.{Receiver}
-use Rattle.receiver_state.specs.State.{holding, isWaiting, receiver}
+use Rattle.receiver_state.specs.State.{holding, wantingOnes, nothingHeld, isWaiting, receiver}
 use Rattle.receiver_state.specs.Shown.{noOutputs}
 use Rattle.receiver_state.specs.WellFormed.{CoreFacts, ReceiverFacts}
 use Rattle.receiver_state.proofs.HeldBits.{waiting-law}
 use Rattle.idle_clock.specs.IdleClock.{idleClock}
 use Rattle.idle_clock.specs.AtRest.{settled, restFor, untriggeredClocks, settlingClocks}
 use Rattle.idle_clock.proofs.AtRest.{rest-laws}
+use Rattle.channel_b.specs.declared.Taken.the-variants.{Unfinished}
 use Rattle.channel_b.specs.TakeBit.{takeBit, heldAfter}
 use Rattle.channel_b.specs.Laws.{firstBits, bitAfter}
 use Rattle.channel_b.proofs.Bits.{bit-law}
@@ -45,6 +48,9 @@ in-time : (kind : Kind) → settlingClocks ≤ suc (frameBits kind - 2)
 in-time Short = lit≤ tt
 in-time Long = lit≤ tt
 
+one-less : (n : ℕ) → suc n - 1 ≡ n
+one-less n = omega arith
+
 one-along : (n left : ℕ) → suc n + left ≡ n + suc left
 one-along n left = omega arith
 
@@ -61,7 +67,7 @@ last-clock-rests n core f h =
 
 module _ (columns : Kind → List ℕ) (kind : Kind) (number : ℕ) (e : isFrame kind number ≡ true) (core : Core) where
   abbrev done : ℕ → ClockAnswer
-  done n = clockedAnswer (heldAfter kind number) (finishedBy columns kind number (idleClock (untriggeredClocks n core) 0))
+  done n = clockedAnswer (heldAfter number) (finishedBy columns kind number (idleClock (untriggeredClocks n core) 0))
 
   -- the clock of a bit on a state that is known
   module _ (a : ClockAnswer) (f : ReceiverFacts (a .receiver)) (n bit : ℕ) (small : bit < 2) (r : a .receiver ≡ receiver (untriggeredClocks n core) (firstBits kind number n))
@@ -73,7 +79,7 @@ module _ (columns : Kind → List ℕ) (kind : Kind) (number : ℕ) (e : isFrame
     last-clock w =
         sym (step-is-clock columns (a .receiver) 0 bit f (lit< tt) small)
         ∙ finished-step columns (a .receiver) 0 bit kind number (taken ∙ bit-law .last-bit kind number n e w)
-        ∙ ap (λ (x : Receiver). clockedAnswer (heldAfter kind number) (finishedBy columns kind number (idleClock (x .core) 0))) r
+        ∙ ap (λ (x : Receiver). clockedAnswer (heldAfter number) (finishedBy columns kind number (idleClock (x .core) 0))) r
 
     next-clock : 1 ≤ n → n + 1 < frameBits kind
         → clockAnswer columns (a .receiver) 0 bit ≡ clockedAnswer (firstBits kind number (n + 1)) (idleClock (untriggeredClocks n core) 0)
@@ -131,11 +137,42 @@ module _ (columns : Kind → List ℕ) (r : Receiver) (kind : Kind) (number : �
       ∙ ap (done columns kind number e (r .core)) (one-and k)
 
   pub at-once : clocksAnswer columns (noClock r) (bitsOf (frameBits kind) number)
-      ≡ clockedAnswer (heldAfter kind number) (finishedBy columns kind number (settledClock (frameBits kind) (r .core)))
+      ≡ clockedAnswer (heldAfter number) (finishedBy columns kind number (settledClock (frameBits kind) (r .core)))
   at-once =
       let k = frameBits kind - 2 in
       let size = two-at-least kind in
       ap (λ (n : ℕ). clocksAnswer columns (noClock r) (bitsOf n number)) size
       ∙ all-bits k size
-      ∙ ap (λ (c : Clocked). clockedAnswer (heldAfter kind number) (finishedBy columns kind number c)) (last-clock-rests (suc k) (r .core) (f .of-core) (in-time kind))
-      ∙ ap (λ (n : ℕ). clockedAnswer (heldAfter kind number) (finishedBy columns kind number (settledClock n (r .core)))) (sym size)
+      ∙ ap (λ (c : Clocked). clockedAnswer (heldAfter number) (finishedBy columns kind number c)) (last-clock-rests (suc k) (r .core) (f .of-core) (in-time kind))
+      ∙ ap (λ (n : ℕ). clockedAnswer (heldAfter number) (finishedBy columns kind number (settledClock n (r .core)))) (sym size)
+
+-- ---- as many ones as a receiver wants
+
+module _ (columns : Kind → List ℕ) (core : Core) where
+  one-clock : (a : ClockAnswer) (n others : ℕ) → ReceiverFacts (a .receiver) → a .receiver ≡ receiver (untriggeredClocks n core) (wantingOnes (suc others))
+      → clockAnswer columns (a .receiver) 0 1 ≡ clockedAnswer (wantingOnes others) (idleClock (untriggeredClocks n core) 0)
+  one-clock a n others f r =
+      sym (step-is-clock columns (a .receiver) 0 1 f (lit< tt) (lit< tt))
+      ∙ unfinished-step columns (a .receiver) 0 1 (wantingOnes others) (ap (λ (x : Receiver). takeBit (x .held) 1) r ∙ bit-law .one-wanted (suc others) ∙ ap (λ (n : ℕ). Unfinished (wantingOnes n)) (one-less others))
+      ∙ ap (λ (x : Receiver). clockedAnswer (wantingOnes others) (idleClock (x .core) 0)) r
+
+  ones-from : (others n : ℕ) (a : ClockAnswer) → ReceiverFacts (a .receiver)
+      → a .receiver ≡ receiver (untriggeredClocks n core) (wantingOnes (suc others))
+      → clocksAnswer columns a (replicate (suc others) 1) ≡ clockedAnswer nothingHeld (idleClock (untriggeredClocks (n + others) core) 0)
+  unfolding clocksAnswer untriggeredClocks
+  ones-from zero n a f r =
+      one-clock a n 0 f r ∙ ap (λ (k : ℕ). clockedAnswer nothingHeld (idleClock (untriggeredClocks k core) 0)) (sym (add-zero n))
+  ones-from (suc others) n a f r =
+      let is = one-clock a n (suc others) f r in
+      let next = clockAnswer columns (a .receiver) 0 1 in
+      let facts = subst (λ (x : ClockAnswer). ReceiverFacts (x .receiver)) (step-is-clock columns (a .receiver) 0 1 f (lit< tt) (lit< tt)) (step-facts columns (a .receiver) 0 1 f (lit< tt)) in
+      ones-from others (suc n) next facts (ap (λ (x : ClockAnswer). x .receiver) is)
+      ∙ ap (λ (k : ℕ). clockedAnswer nothingHeld (idleClock (untriggeredClocks k core) 0)) (one-along n others)
+
+  pub ones-at-once : (others : ℕ) → settlingClocks ≤ others → (r : Receiver) → ReceiverFacts r → r ≡ receiver core (wantingOnes (suc others))
+      → clocksAnswer columns (noClock r) (replicate (suc others) 1) ≡ clockedAnswer nothingHeld (settledClock (suc others) core)
+  unfolding untriggeredClocks
+  ones-at-once others settle r f e =
+      ones-from others 0 (noClock r) f e
+      ∙ ap (λ (n : ℕ). clockedAnswer nothingHeld (idleClock (untriggeredClocks n core) 0)) (zero-add others)
+      ∙ ap (clockedAnswer nothingHeld) (last-clock-rests others core (subst (λ (x : Receiver). CoreFacts (x .core)) e (f .of-core)) settle)

@@ -4,6 +4,7 @@ use mathlib.Core.Path.{_≡_}
 use mathlib.Core.Logic.{_≢_}
 use mathlib.Core.Bool.{true, cond}
 use mathlib.Core.List.{List, [], _∷_}
+use lib.ListN.{replicate}
 use Rattle.frame.specs.declared.Kind.{Kind}
 use Rattle.frame.specs.Numbers.{frameBits, isFrame}
 use Rattle.frame.specs.Columns.{columnsOf, GoodTables}
@@ -11,6 +12,7 @@ use Rattle.frame.specs.Bits.{bitsOf}
 use Rattle.receiver_state.specs.declared.Core.{Core}
 use Rattle.receiver_state.specs.declared.Clocked.{Clocked}
 use Rattle.receiver_state.specs.declared.Receiver.{Receiver}
+use Rattle.receiver_state.specs.State.{wantingOnes, nothingHeld}
 use Rattle.receiver_state.specs.Shown.{noOutputs}
 use Rattle.receiver_state.specs.WellFormed.{wellFormed}
 use Rattle.idle_clock.specs.AtRest.{settled, restFor}
@@ -38,6 +40,10 @@ receiveAnswer columns r kind number =
     (refusedClock 12 r))
     (refusedClock 2 r)
 
+-- document 02, Q-1: after verdict 7 the receiver wants 41 ones
+abbrev pub LeftWanting : ClockAnswer → Type 0
+LeftWanting done = done .outputs .verdict ≡ 7 → (wellFormed (done .receiver) ≡ true) × (done .receiver .held ≡ wantingOnes 41)
+
 -- ---- on a receiver that waits
 
 -- so many clocks without triggers that finish no frame, more than what was under way lasts: the bunch counter moves on, and nothing is shown
@@ -50,19 +56,40 @@ module _ (columns : Kind → List ℕ) where
   SentFrameFinishes =
       (r : Receiver) (kind : Kind) (number : ℕ) → wellFormed r ≡ true → Waits r → isFrame kind number ≡ true
       → receiveAnswer columns r kind number
-      ≡ clockedAnswer (heldAfter kind number) (finishedBy columns kind number (settledClock (frameBits kind) (r .core)))
+      ≡ clockedAnswer (heldAfter number) (finishedBy columns kind number (settledClock (frameBits kind) (r .core)))
 
   abbrev pub SomeVerdict : Type 0
   SomeVerdict =
       (r : Receiver) (kind : Kind) (number : ℕ) → wellFormed r ≡ true → Waits r → isFrame kind number ≡ true
       → receiveAnswer columns r kind number .outputs .verdict ≢ 0
 
--- and the receiver then waits again. Proved in proofs/WholeFrameLaw.antt.
+  -- and of every verdict but 7 the receiver then waits again
+  abbrev pub WaitsAgain : Type 0
+  WaitsAgain =
+      (r : Receiver) (kind : Kind) (number : ℕ) → wellFormed r ≡ true → Waits r → isFrame kind number ≡ true
+      → let done = receiveAnswer columns r kind number in
+      done .outputs .verdict ≢ 7 → Waits (done .receiver)
+
+  -- ---- after verdict 7
+
+  -- of every receiver, also where the last bit finished another frame than the one sent
+  abbrev pub WantsAfter : Type 0
+  WantsAfter = (r : Receiver) (kind : Kind) (number : ℕ) → LeftWanting (receiveAnswer columns r kind number)
+
+  -- 41 clocks with a 1 on channel B and no trigger, on a receiver that wants 41 ones: it waits, and only the bunch counter and what was under way
+  -- have moved
+  abbrev pub OnesAfter7 : Type 0
+  OnesAfter7 =
+      (r : Receiver) → wellFormed r ≡ true → r .held ≡ wantingOnes 41 → let done = clocksAnswer columns (noClock r) (replicate 41 1) in
+      (done ≡ clockedAnswer nothingHeld (settledClock 41 (r .core))) × (wellFormed (done .receiver) ≡ true)
+
+-- Proved in proofs/WholeFrameLaw.antt.
 pub record WholeFrameLaw (columns : Kind → List ℕ) : Type 0 where
   pub sent-frame-finishes : SentFrameFinishes columns
   pub some-verdict : SomeVerdict columns
-  pub waits-again : (r : Receiver) (kind : Kind) (number : ℕ) → wellFormed r ≡ true → Waits r → isFrame kind number ≡ true
-      → Waits (receiveAnswer columns r kind number .receiver)
+  pub waits-again : WaitsAgain columns
+  pub wants-after-7 : WantsAfter columns
+  pub ones-after-7 : OnesAfter7 columns
   -- waiting or not, refused or not
   pub stays-well-formed : (r : Receiver) (kind : Kind) (number : ℕ) → wellFormed r ≡ true → wellFormed (receiveAnswer columns r kind number .receiver) ≡ true
 

@@ -9,10 +9,10 @@ ghost use Rattle.hamming.specs.Code.{inUse};
 ghost use Rattle.frame.specs.Numbers.{frameBits, isFrame};
 ghost use Rattle.frame.specs.Columns.{columnsFor, columnsOf};
 ghost use Rattle.frame.specs.Bits.{bitsOf};
-ghost use Rattle.receiver_state.specs.State.{isWaiting};
+ghost use Rattle.receiver_state.specs.State.{receiver, nothingHeld, isWaiting};
 ghost use Rattle.receiver_state.specs.WellFormed.{ReceiverFacts};
 ghost use Rattle.receiver.specs.Clock.{stepAnswer};
-ghost use Rattle.whole_frame.specs.WholeFrame.{clocksAnswer, noClock, receiveAnswer};
+ghost use Rattle.whole_frame.specs.WholeFrame.{clocksAnswer, noClock, receiveAnswer, settledClock};
 ghost use Rattle.whole_frame.specs.ByFormat.{kindOf, receiveByFormat};
 use channel_b::Taken;
 use channel_b::held_after;
@@ -29,6 +29,8 @@ use receiver::ClockAnswer;
 use receiver::answered;
 use receiver::refuse_clock;
 use receiver_state::Clocked;
+use receiver_state::Core;
+use receiver_state::Held;
 use receiver_state::Receiver;
 use receiver_state::is_waiting;
 use receiver_state::no_outputs;
@@ -54,13 +56,13 @@ fn receive_bit(short: &[u8], long: &[u8], receiver: Receiver, bit: u8) -> ClockA
         Taken::Finished { kind, number } => {
             let idle = idle_clock(receiver.core, 0);
             let frame = decode_finished(short, long, kind, number);
-            answered(finish(kind, frame, idle), held_after(kind, number))
+            answered(finish(kind, frame, idle), held_after(number))
         }
     }
 }
 
 // So many bits of a number, one a clock, without triggers, on a state that is known to be well formed.
-// This is for receivers that hold bits of another frame.
+// This is for receivers that hold bits of another frame or want ones.
 fn receive_bits(
     short: &[u8],
     long: &[u8],
@@ -98,7 +100,22 @@ fn receive_waiting(
     let outputs = no_outputs();
     let idle = Clocked { core, outputs };
     let frame = decode_finished(short, long, kind, number);
-    answered(finish(kind, frame, idle), held_after(kind, number))
+    answered(finish(kind, frame, idle), held_after(number))
+}
+
+// 41 clocks with a 1 on channel B and no trigger, on a receiver that has this core and wants 41 ones:
+// they end what was under way, count, and leave the receiver waiting (`OnesAfter7`). They are done at
+// once.
+pub fn after_41_ones(core: Core) -> Receiver
+    ensures { λ r. ⌜ r ≡ receiver (settledClock 41 core .core) nothingHeld ⌝ }
+{
+    let after = rest_for(settle(core), 41);
+    let held = Held {
+        count: 0,
+        wanted: 0,
+        bits: 0,
+    };
+    Receiver { core: after, held }
 }
 
 // A whole frame, one bit a clock, without triggers: the answer of its last clock.

@@ -1,11 +1,13 @@
-//! An independent model of document 01, and of of document 02: frames, stored lines, fine
-//! delays, the receiver, blocks of clocks, and the program `ttclines`.
+//! An independent model of document 01, and of of document 02: frames, stored
+//! lines, fine delays, the receiver, blocks of clocks, and the program `ttclines`.
 //!
 //! It works differently. A received frame is decoded by a search for the nearest codeword. The bits
 //! of an unfinished frame are kept one by one in the order received, a running sequence as the two
-//! words of its event number, and of a Config byte only the bit that may change. A fine delay byte
-//! is found by a search with the formula of the way back, a setting by one with the formula of the
-//! byte. It depends on nothing else of this package.
+//! words of its event number, and of a Config byte only the bit that may change. After a bad stop
+//! bit the last 41 bits of channel B are kept, and compared with 41 ones; the ones still wanted are
+//! worked out only for the plain state. A fine delay byte is found by a search with the formula of
+//! the way back, a setting by one with the formula of the byte. It depends on nothing else of this
+//! package.
 
 pub mod block;
 mod delay;

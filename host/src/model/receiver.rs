@@ -1,4 +1,4 @@
-//! "One clock" and "Fate of a finished frame" of document 01: the receiver.
+//! "One clock" and "Fate of a finished frame" of document 01, and Q-1 of document 02: the receiver.
 
 use super::frame::{bits, decode, leading};
 use super::{Decoded, Fields, Kind, Refusal, Verdict};
@@ -68,7 +68,8 @@ pub(super) enum Left {
 /// The most bits that a frame has.
 pub(super) const LONGEST: usize = Kind::Long.length() as usize;
 
-/// "Frames on channel B": the bits of an unfinished frame in the order received. None: waiting.
+/// "Frames on channel B": the bits of an unfinished frame in the order received. None before its
+/// start bit.
 #[derive(Clone, Copy, Debug)]
 pub(super) struct Bits {
     pub(super) received: [bool; LONGEST],
@@ -76,7 +77,7 @@ pub(super) struct Bits {
 }
 
 impl Bits {
-    pub(super) const WAITING: Bits = Bits { received: [false; LONGEST], length: 0 };
+    pub(super) const NONE: Bits = Bits { received: [false; LONGEST], length: 0 };
 
     /// The bits received so far.
     #[inline]
@@ -99,7 +100,7 @@ impl Bits {
     }
 
     /// Takes a bit of channel B. Idle is 1, so while waiting only a 0 is kept: it is a start bit.
-    /// Gives the frame that this bit finishes; then the receiver waits.
+    /// Gives the frame that this bit finishes; then no bit is held.
     #[inline]
     fn take(&mut self, bit: bool) -> Option<(Kind, u64)> {
         if self.length == 0 && bit {
@@ -114,6 +115,70 @@ impl Bits {
         let number = self.number();
         self.length = 0;
         Some((kind, number))
+    }
+}
+
+/// Q-1 of document 02, "Quiet after a bad stop": "41 ones in a row".
+pub(super) const RUN: u8 = 41;
+
+/// the last 41 bits of channel B since a bad stop bit, as a number with the newest bit least
+/// significant. In the places of the bits up to the bad stop bit there are zeros: none of those bits
+/// counts.
+#[derive(Clone, Copy, Debug)]
+pub(super) struct LastBits(u64);
+
+impl LastBits {
+    const ALL_ONES: LastBits = LastBits::after(RUN);
+
+    /// The last bits after so many ones in a row, with zeros before them.
+    pub(super) const fn after(ones: u8) -> LastBits {
+        LastBits((1u64 << ones) - 1)
+    }
+
+    /// The ones in a row up to now.
+    pub(super) fn run(self) -> u8 {
+        self.0.trailing_ones() as u8
+    }
+
+    /// With one bit more. The oldest is left out.
+    #[inline]
+    fn then(self, bit: bool) -> LastBits {
+        LastBits((self.0 << 1 | u64::from(bit)) & LastBits::ALL_ONES.0)
+    }
+}
+
+/// What the receiver keeps of channel B.
+#[derive(Clone, Copy, Debug)]
+pub(super) enum ChannelB {
+    /// It waits for a start bit, or holds bits of a frame.
+    Listening(Bits),
+    /// a stop bit was 0, and 41 ones in a row have not come since. No 0 is a start bit.
+    Quiet(LastBits),
+}
+
+impl ChannelB {
+    pub(super) const WAITING: ChannelB = ChannelB::Listening(Bits::NONE);
+
+    /// Takes a bit. Gives the frame that this bit finishes.
+    #[inline]
+    fn take(&mut self, bit: bool) -> Option<(Kind, u64)> {
+        match self {
+            ChannelB::Listening(bits) => bits.take(bit),
+            ChannelB::Quiet(last) => {
+                *self = ChannelB::quiet(last.then(bit));
+                None
+            }
+        }
+    }
+
+    /// "must see 41 ones in a row on channel B before a 0 counts as a start". When it has seen
+    /// them it waits.
+    #[inline]
+    fn quiet(last: LastBits) -> ChannelB {
+        match last.0 == LastBits::ALL_ONES.0 {
+            true => ChannelB::WAITING,
+            false => ChannelB::Quiet(last),
+        }
     }
 }
 
@@ -132,7 +197,7 @@ pub struct Receiver {
     pub(super) bunch: u16,
     pub(super) event: u32,
     pub(super) left: Left,
-    pub(super) bits: Bits,
+    pub(super) channel_b: ChannelB,
 }
 
 /// "One clock": the counters go up modulo these.
@@ -177,7 +242,7 @@ impl Receiver {
             bunch: 0,
             event: 0,
             left: Left::Nothing,
-            bits: Bits::WAITING,
+            channel_b: ChannelB::WAITING,
         }
     }
 
@@ -202,7 +267,7 @@ impl Receiver {
             self.event = (self.event + 1) % EVENTS;
         }
         self.bunch = (self.bunch + 1) % BUNCHES;
-        let finished = self.bits.take(data);
+        let finished = self.channel_b.take(data);
         let fate = finished.map_or(Fate::default(), |(kind, number)| self.finish(kind, number));
         Outputs { trigger, missed: trigger && running, bus, fate }
     }
@@ -216,6 +281,13 @@ impl Receiver {
             last = self.clock(false, bit);
         }
         last
+    }
+
+    /// So many clocks with a 1 on channel B, which is idle, and without triggers.
+    pub fn idle(&mut self, clocks: u8) {
+        for _ in 0..clocks {
+            self.clock(false, true);
+        }
     }
 
     /// A whole frame: its kind as a number, and its bits. Refusal 12.
@@ -306,12 +378,14 @@ impl Receiver {
     }
 
     /// "Fate of a finished frame", the effects; RESET ends a running sequence and clears the rise
-    /// of the single error counter, too.
+    /// of the single error counter, too. Q-1: after verdict 7, and no other, a run of ones is to
+    /// come.
     fn act(&mut self, verdict: Verdict, fields: Fields) {
         match verdict {
             Verdict::Broadcast => self.broadcast(fields.data),
             Verdict::Stored => self.registers[usize::from(fields.sub_address)] = fields.data,
             Verdict::Reset => *self = Receiver::fresh_of(self.id, self.i2c),
+            Verdict::StopBit => self.channel_b = ChannelB::Quiet(LastBits::after(0)),
             _ => {}
         }
     }

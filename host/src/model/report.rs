@@ -1,12 +1,13 @@
-//! "Stored lines" of document 01: the report that the program `ttclines` makes, over a reader and a
-//! writer, and piece by piece into lent buffers.
+//! "Stored lines" of document 01, with what Q-1 of document 02 adds: the report that the program
+//! `ttclines` makes, over a reader and a writer, and piece by piece into lent buffers.
 //!
 //! The program is also the plain Rust one that the proved program is measured against. It takes a
 //! line from the reader's own buffer. Of a line that lies in several pieces it keeps no more
 //! characters than can matter.
 
+use super::receiver::RUN;
 use super::text::{self, Text};
-use super::{read_line, Fate, Kind, Receiver, Refusal, State};
+use super::{read_line, Fate, Kind, Receiver, Refusal, State, Verdict};
 use std::io::{self, BufRead, ErrorKind, Write};
 use std::mem;
 
@@ -145,11 +146,16 @@ impl Report {
     }
 
     /// "Feeds each line's bits with no triggers and no idle between." A refused line sends no bit.
+    /// "sends 41 ones after each line with verdict 7", which is the verdict that is printed.
     #[inline]
     fn frame(&mut self, characters: &[u8]) -> Result<(Kind, Fate), Refusal> {
         let (kind, number) = read_line(characters)?;
         let receiver = self.receiver.as_mut().map_err(|_| Refusal::State)?;
-        Ok((kind, receiver.send(number, kind.length()).fate))
+        let fate = receiver.send(number, kind.length()).fate;
+        if fate.verdict == Verdict::StopBit {
+            receiver.idle(RUN);
+        }
+        Ok((kind, fate))
     }
 
     /// "A last line without line feed counts too"; then the line `end`.

@@ -1,9 +1,10 @@
-//! "Well formed" of document 01, clause by clause: plain numbers as the model's receiver, and the
-//! way back. No clause speaks of registers 0 to 3 or of the error counters: every value is one of
-//! them.
+//! "Well formed" of document 01, clause by clause, with what Q-1 of document 02 adds: plain numbers
+//! as the model's receiver, and the way back. No clause speaks of registers 0 to 3 or of the error
+//! counters: every value is one of them.
 
 use super::frame::bits;
-use super::receiver::{ids_in_range, Bits, Event, Left, BUNCHES, EVENTS, FRESH_CONFIG, LONGEST};
+use super::receiver::{ids_in_range, Bits, ChannelB, Event, LastBits, Left};
+use super::receiver::{BUNCHES, EVENTS, FRESH_CONFIG, LONGEST, RUN};
 use super::Receiver;
 
 /// A state as plain numbers, well formed or not.
@@ -23,6 +24,8 @@ pub struct State {
     /// Words that a sequence has left, and its kept event number.
     pub left: u8,
     pub kept: u32,
+    /// Q-1: "the ones still wanted, 0 when waiting".
+    pub ones_wanted: u8,
     /// How many bits of an unfinished frame are held, and they as a number.
     pub held: u8,
     pub bits: u64,
@@ -70,7 +73,7 @@ fn frame_bits(count: u8, number: u64) -> Option<Bits> {
     if length >= LONGEST || number >> length != 0 {
         return None;
     }
-    let mut held = Bits::WAITING;
+    let mut held = Bits::NONE;
     held.length = length;
     for (place, bit) in held.received.iter_mut().zip(bits(number, count)) {
         *place = bit;
@@ -78,6 +81,16 @@ fn frame_bits(count: u8, number: u64) -> Option<Bits> {
     let start_right = held.so_far().first() != Some(&true);
     let unfinished = held.kind().is_none_or(|kind| count < kind.length());
     (start_right && unfinished).then_some(held)
+}
+
+/// Q-1: "the ones still wanted, 0 when waiting; over 41, or over 0 beside held frame bits, is not
+/// well formed". Those of the 41 that are not wanted have been seen, in a row.
+fn channel_b(held: Bits, ones_wanted: u8) -> Option<ChannelB> {
+    if ones_wanted == 0 {
+        return Some(ChannelB::Listening(held));
+    }
+    let seen = RUN.checked_sub(ones_wanted)?;
+    held.so_far().is_empty().then_some(ChannelB::Quiet(LastBits::after(seen)))
 }
 
 impl Receiver {
@@ -98,13 +111,14 @@ impl Receiver {
             bunch: bunch(state.bunch)?,
             event: event(state.event)?,
             left: sequence(state.left, state.kept)?,
-            bits: frame_bits(state.held, state.bits)?,
+            channel_b: channel_b(frame_bits(state.held, state.bits)?, state.ones_wanted)?,
         })
     }
 
     /// The state as plain numbers.
     pub fn state(&self) -> State {
         let (left, kept) = self.sequence();
+        let (bits, ones_wanted) = self.bits_and_ones_wanted();
         State {
             id: self.id,
             i2c: self.i2c,
@@ -117,8 +131,9 @@ impl Receiver {
             event: self.event,
             left,
             kept,
-            held: self.bits.length as u8,
-            bits: self.bits.number(),
+            ones_wanted,
+            held: bits.length as u8,
+            bits: bits.number(),
         }
     }
 
@@ -126,6 +141,14 @@ impl Receiver {
     pub(super) fn config(&self, place: usize) -> u8 {
         let bit_7 = u8::from(self.config_bit_7[place]) << 7;
         bit_7 | (FRESH_CONFIG[place] & 0x7F)
+    }
+
+    /// The bits of an unfinished frame, and the ones that a run of 41 has still to come to.
+    fn bits_and_ones_wanted(&self) -> (Bits, u8) {
+        match self.channel_b {
+            ChannelB::Listening(bits) => (bits, 0),
+            ChannelB::Quiet(last) => (Bits::NONE, RUN - last.run()),
+        }
     }
 
     /// The words left, and the kept event number.

@@ -111,6 +111,7 @@ pub fn plain(state: &Receiver) -> State {
         event: core.counters.event,
         left: core.sequence.left,
         kept: core.sequence.event,
+        ones_wanted: held.ones_wanted,
         held: held.count,
         bits: held.bits,
     }
@@ -130,7 +131,7 @@ pub fn from_plain(state: &State) -> Receiver {
         counters: Counters { bunch: state.bunch, event: state.event },
         sequence: Sequence { left: state.left, event: state.kept },
     };
-    let held = Held { count: state.held, bits: state.bits };
+    let held = Held { count: state.held, ones_wanted: state.ones_wanted, bits: state.bits };
     Receiver { core, held }
 }
 

@@ -47,8 +47,9 @@ pub const LINES: [(&str, &str); 8] = [
     ("4001", "! 12"),
 ];
 
-/// "Stored lines": single errors, double errors, event count and bunch count at the end.
-pub const END: &str = "end 2 2 0 174";
+/// "Stored lines": single errors, double errors, event count and bunch count at the end. Q-1 of
+/// document 02: "In the example the bunch count becomes 215."
+pub const END: &str = "end 2 2 0 215";
 
 /// "Run by a program": the trigger bits of five clocks from fresh, and what they show.
 pub const TRIGGERS: [Outputs; 5] = [

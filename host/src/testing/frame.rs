@@ -4,7 +4,15 @@ use super::library::Library;
 use crate::model::{self, block, Fields, Kind};
 use crate::sys::{ClockAnswer, Held, Receiver};
 
-/// The bits of a frame, or of a part of it, as a number of that many bits.
+/// Q-1 of document 02: so many ones in a row, after which any receiver waits.
+pub const RUN: u8 = 41;
+
+/// What a receiver keeps of channel B that wants so many ones; it waits if it wants none.
+pub fn wanting(ones_wanted: u8) -> Held {
+    Held { ones_wanted, ..Held::default() }
+}
+
+/// The bits of a frame, of a part of it, or of a run of ones, as a number of that many bits.
 #[derive(Clone, Copy, Debug, PartialEq, Eq)]
 pub struct Frame {
     pub number: u64,
@@ -33,6 +41,16 @@ impl Frame {
         Frame::of(Kind::Long, model::encode_word(word))
     }
 
+    /// So many ones, which are idle; no frame.
+    pub const fn ones(count: u8) -> Frame {
+        Frame { number: (1u64 << count) - 1, length: count }
+    }
+
+    /// Whether the stop bit of a whole frame is 0.
+    pub fn stops_badly(self) -> bool {
+        self.number & 1 == 0
+    }
+
     /// The kind of a whole frame, by its length.
     #[inline]
     pub fn kind(self) -> Kind {
@@ -59,7 +77,7 @@ impl Frame {
 
     /// The bits as a receiver holds them, which has received them and none more.
     pub fn held(self) -> Held {
-        Held { count: self.length, bits: self.number }
+        Held { count: self.length, bits: self.number, ..Held::default() }
     }
 
     /// The bits in the order sent.

@@ -1,8 +1,8 @@
-//! What is sent to a receiver: frames of every fate, bursts, idle and noise on
+//! What is sent to a receiver: frames of every fate, bursts, idle, noise and runs of ones on
 //! channel B, and triggers on channel A.
 
 use super::coverage::{assert_seen, Tally};
-use super::frame::Frame;
+use super::frame::{Frame, RUN};
 use super::random::Random;
 use crate::model::{block, Fields};
 
@@ -37,6 +37,13 @@ enum Damage {
 }
 
 const DAMAGE: &str = "damage (none, 1, 2, 3 flips, stop, flip and stop, start, format)";
+
+impl Damage {
+    /// The receiver may find a bad stop bit, in this frame or in bits that it takes for one.
+    fn slips(self) -> bool {
+        matches!(self, Damage::Stop | Damage::FlipAndStop | Damage::Start | Damage::Format)
+    }
+}
 
 /// Clean frames and one flip are the most frequent, so that every verdict is.
 fn damage(random: &mut Random) -> Damage {
@@ -150,8 +157,13 @@ const NOISE: u8 = 4;
 const TRIGGERS: [u64; 6] = [0, 60, 8, 3, 2, 1];
 const TRIGGER: &str = "triggers (never, 1 in 60, 8, 3, 2, 1)";
 
-/// No bit is to be sent.
+/// No bit is to be sent; or a single 0.
 const NOTHING: Frame = Frame { number: 0, length: 0 };
+const ZERO: Frame = Frame { number: 0, length: 1 };
+
+/// Runs of ones after a bad stop bit.
+const RUNS: u8 = 5;
+const RUN_OF_ONES: &str = "run of ones (41, 40, fewer, fewer and a 0, more)";
 
 /// The bits of both channels, clock by clock.
 pub struct Traffic {
@@ -162,11 +174,15 @@ pub struct Traffic {
     triggers: u8,
     /// Frames or gaps until the pace and the rate of triggers are chosen anew.
     items: u64,
+    /// A run of ones is to come next: the receiver may want one.
+    slipped: bool,
+    ones: u64,
     gap: u64,
     /// The bits of a frame that are still to be sent.
     frame: Frame,
     sent: Tally<2>,
     paces: Tally<2>,
+    runs: Tally<1>,
 }
 
 impl Traffic {
@@ -178,10 +194,13 @@ impl Traffic {
             pace: 0,
             triggers: 0,
             items: 0,
+            slipped: false,
+            ones: 0,
             gap: 0,
             frame: NOTHING,
             sent: Tally::of([("long", 0, 1), (DAMAGE, 0, Damage::Format as u8)]),
             paces: Tally::of([(PACE, 0, PACES - 1), (TRIGGER, 0, TRIGGERS.len() as u8 - 1)]),
+            runs: Tally::of([(RUN_OF_ONES, 0, RUNS - 1)]),
         }
     }
 
@@ -190,6 +209,8 @@ impl Traffic {
         self.id = id;
         self.habit = habit;
         self.items = 0;
+        self.slipped = false;
+        self.ones = 0;
         self.gap = 0;
         self.frame = NOTHING;
     }
@@ -197,7 +218,7 @@ impl Traffic {
     /// The trigger bit and the data bit of the next clock.
     #[inline]
     pub fn clock(&mut self) -> (u8, u8) {
-        if self.gap == 0 && self.frame.length == 0 {
+        while self.ones == 0 && self.gap == 0 && self.frame.length == 0 {
             self.next_item();
         }
         let rate = TRIGGERS[usize::from(self.triggers)];
@@ -215,6 +236,10 @@ impl Traffic {
     }
 
     fn data(&mut self) -> u8 {
+        if self.ones > 0 {
+            self.ones -= 1;
+            return 1;
+        }
         if self.gap > 0 {
             self.gap -= 1;
             return match self.pace {
@@ -227,8 +252,11 @@ impl Traffic {
         first as u8
     }
 
-    /// The next gap, and a frame after it.
+    /// A run of ones; or the next gap, and a frame after it.
     fn next_item(&mut self) {
+        if self.slipped {
+            return self.next_run();
+        }
         if self.items == 0 {
             self.next_pace();
         }
@@ -242,7 +270,24 @@ impl Traffic {
         };
         let (frame, damage) = arriving(&mut self.random, self.id, self.habit);
         self.frame = frame;
+        self.slipped = damage.slips() || self.pace == NOISE;
         self.sent.seen([frame.kind().number(), damage as u8]);
+    }
+
+    /// Often exactly 41 ones. A 0 may come before the 41st: then frames go on while the receiver
+    /// wants ones, or another run begins after a single 0.
+    fn next_run(&mut self) {
+        let sort = self.random.pick(&[0, 0, 0, 0, 1, 2, 3, 4]);
+        let any = self.random.below(RUN.into());
+        self.ones = match sort {
+            0 => RUN.into(),
+            1 => u64::from(RUN) - 1,
+            2 | 3 => any,
+            _ => u64::from(RUN) + 1 + any,
+        };
+        self.slipped = sort == 3;
+        self.frame = if self.slipped { ZERO } else { NOTHING };
+        self.runs.seen([sort]);
     }
 
     fn next_pace(&mut self) {
@@ -256,10 +301,10 @@ impl Traffic {
         self.paces.seen([self.pace, self.triggers]);
     }
 
-    /// Fails if some kind of damage, pace or rate of triggers was never chosen.
+    /// Fails if some kind of damage, pace, rate of triggers or run of ones was never chosen.
     #[track_caller]
     pub fn assert_complete(&self) {
-        assert_seen(&[&self.sent, &self.paces]);
+        assert_seen(&[&self.sent, &self.paces, &self.runs]);
     }
 }
 

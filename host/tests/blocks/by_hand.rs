@@ -4,7 +4,7 @@ use crate::driver::{numbers, Driver};
 use ttcrx_host::model::Kind;
 use ttcrx_host::sys::{CODE_CORRECTED, CODE_MISSED, CODE_TRIGGER, RECORD_NUMBERS};
 use ttcrx_host::testing::example::{CORRECTED, LONG_FRAMES, RESET, UNCORRECTABLE};
-use ttcrx_host::testing::frame::Frame;
+use ttcrx_host::testing::frame::{Frame, RUN};
 use ttcrx_host::ttcrx;
 
 const MISSED: u32 = CODE_TRIGGER + CODE_MISSED;
@@ -37,6 +37,7 @@ fn triggers() {
 }
 
 /// Counts before the clock, though the frame clears them or RESETs, or the trigger raises them.
+/// After the bad stop bit come 41 ones, which have no records.
 #[test]
 fn frames() {
     let mut driver = fresh("frames with their counts", 471);
@@ -49,17 +50,24 @@ fn frames() {
         (CORRECTED, 0, [15, 15, 7, 1 + CODE_CORRECTED, 2]),
         (CORRECTED, 1, [15, 31, 0, 1 + both, 2]),
         (UNCORRECTABLE[0], 1, [15, 47, 0, 8 + CODE_TRIGGER, 0]),
-        // 004E has stop bit 0; 004F, which is 01, clears the bunch counter.
+        // 004E has stop bit 0.
         (short(0x004E), 0, [15, 63, 1, 7, 0]),
-        (short(0x004F), 0, [15, 79, 1, 1, 1]),
+    ];
+    let after_ones = [
+        // 004F, which is 01, clears the bunch counter.
+        (short(0x004F), 0, [15, 120, 1, 1, 1]),
         (outside, 0, [41, 41, 1, 4, 0x0017_10AA]),
         (RESET, 1, [41, 83, 1, 3 + CODE_TRIGGER, 0x0015_0600]),
     ];
     for (frame, last_trigger, record) in frames {
         says(&mut driver, &frame.block(last_trigger), &[record]);
     }
+    says(&mut driver, &Frame::ones(RUN).block(0), &[]);
+    for (frame, last_trigger, record) in after_ones {
+        says(&mut driver, &frame.block(last_trigger), &[record]);
+    }
     says(&mut driver, &[3], &[[0, 0, 0, CODE_TRIGGER, 0]]);
-    driver.both.at_least(8 * 8);
+    driver.both.at_least(9 * 8);
 }
 
 /// A frame cut by a block's end: its record is in the second block, placed there.

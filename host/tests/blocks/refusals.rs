@@ -132,7 +132,7 @@ fn ill_formed_states() {
             driver.expect(refusal, block, room);
         }
     }
-    driver.both.at_least((25 + 512 + 2_048 + 49_408) * 5 * 7);
+    driver.both.at_least(edges::STATES * 5 * 7);
 }
 
 /// What is wrong with a call, each a bit, and its refusal, in the order of the refusals.

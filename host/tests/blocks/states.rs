@@ -1,9 +1,11 @@
-//! Short blocks from random well-formed states, and from every number of held bits.
+//! Short blocks from random well-formed states, from every number of held bits, and from every
+//! number of ones wanted.
 
 use crate::driver::{noise, Driver};
 use crate::tallies::Records;
 use ttcrx_host::model::Kind;
 use ttcrx_host::sys::RECORD_NUMBERS;
+use ttcrx_host::testing::frame::{Frame, RUN};
 use ttcrx_host::testing::states;
 use ttcrx_host::testing::traffic::{Traffic, LIVELY};
 
@@ -50,6 +52,22 @@ fn every_number_of_held_bits() {
         }
     }
     driver.both.at_least(7 * 56 * 400);
+}
+
+/// Every number of ones wanted, with any bits after them, often after as many ones.
+#[test]
+fn every_number_of_ones_wanted() {
+    let mut driver = Driver::of("short blocks with every number of ones wanted", 414);
+    let mut seen = Records::default();
+    for wanted in (1..=RUN).flat_map(|wanted| [wanted; 400]) {
+        driver.state = states::quiet(&mut driver.random, wanted);
+        let ones = driver.random.pick(&[0, wanted - 1, wanted, RUN]);
+        let length = driver.random.below(50) as usize;
+        let noise = noise(&mut driver.random, length);
+        let block = [Frame::ones(ones).block(0), noise].concat();
+        run(&mut driver, &block, &mut seen);
+    }
+    driver.both.at_least(7 * 41 * 400);
 }
 
 /// Blocks of one clock: every byte that is right.

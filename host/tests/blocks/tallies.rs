@@ -53,6 +53,7 @@ tallies! {
         begins: [("mode at the begin", 0, 3), ("words left", 0, 2)],
         ends: [("words left at the end", 0, 2)],
         held: [("held bits at the end", 0, 41)],
+        wanted: [("ones wanted at the begin", 0, 41)],
         missed: [("trigger on the clock (first, last)", 0, 1), ("missed", 0, 1)],
     }
 }
@@ -86,6 +87,7 @@ impl Blocks {
         self.begins.seen([mode, before.core.sequence.left]);
         self.ends.seen([after.core.sequence.left]);
         self.held.seen([after.held.count]);
+        self.wanted.seen([before.held.ones_wanted]);
         self.triggers(length, records);
     }
 

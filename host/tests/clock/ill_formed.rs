@@ -3,7 +3,7 @@
 use ttcrx_host::sys::{Held, Receiver, Sequence, REFUSED_STATE};
 use ttcrx_host::testing::calls::{call, Call, Shown};
 use ttcrx_host::testing::compare::Both;
-use ttcrx_host::testing::frame::Frame;
+use ttcrx_host::testing::frame::{wanting, Frame};
 use ttcrx_host::testing::library::{Library, Model};
 use ttcrx_host::testing::random::Random;
 use ttcrx_host::testing::states::edges::{self, Edge};
@@ -83,6 +83,12 @@ fn every_number_of_held_bits() {
     expect_edges(name, (54, 1, 193 * 256), edges::held_bits);
 }
 
+#[test]
+fn every_number_of_ones_wanted() {
+    let name = "states with every number of ones wanted";
+    expect_edges(name, (56, 10, 10 * 256), edges::ones_wanted);
+}
+
 /// Fronts of frames: good while a bit is missing, bad with start 1, or with any bit beyond.
 fn fronts(both: &Both, state: Receiver, frame: Frame) {
     let expect_held = |name, held, good| {
@@ -90,11 +96,11 @@ fn fronts(both: &Both, state: Receiver, frame: Frame) {
         expect(both, Edge { name, good, state });
     };
     for count in 1..=frame.length {
-        let Held { count, bits } = frame.front(count).held();
-        expect_held("front of a frame", Held { count, bits }, count < frame.length);
+        let held = frame.front(count).held();
+        expect_held("front of a frame", held, count < frame.length);
         for place in count - 1..64 {
-            let bits = bits | 1 << place;
-            expect_held("start 1, or a bit beyond", Held { count, bits }, false);
+            let bits = held.bits | 1 << place;
+            expect_held("start 1, or a bit beyond", Held { bits, ..held }, false);
         }
     }
 }
@@ -140,10 +146,15 @@ fn every_combination_of_bits() {
     let mut running = fresh;
     running.core.sequence = Sequence { left: 2, event: 7 };
     running.held = example::frames()[4].front(41).held();
+    let quiet = Receiver { held: wanting(41), ..running };
     let mut ill_formed = running;
     ill_formed.core.errors.status5 = 2;
-    let states =
-        [("fresh", true, fresh), ("in a frame", true, running), ("ill-formed", false, ill_formed)];
+    let states = [
+        ("fresh", true, fresh),
+        ("in a frame", true, running),
+        ("wants ones", true, quiet),
+        ("ill-formed", false, ill_formed),
+    ];
     for (name, good, state) in states {
         for trigger in 0..=255 {
             for data in 0..=255 {
@@ -152,5 +163,5 @@ fn every_combination_of_bits() {
             }
         }
     }
-    both.at_least(65536 * 9 - 8);
+    both.at_least(65536 * 12 - 12);
 }

@@ -5,7 +5,7 @@ use ttcrx_host::model::{self, Refusal};
 use ttcrx_host::sys::{ClockAnswer, Receiver, REFUSED_STATE};
 use ttcrx_host::testing::calls::{access, call, no_clock, refused_clock, Call, Shown};
 use ttcrx_host::testing::compare::Both;
-use ttcrx_host::testing::coverage::{Accesses, Coverage};
+use ttcrx_host::testing::coverage::{Accesses, Coverage, Quiet};
 use ttcrx_host::testing::library::{Library, Proved};
 use ttcrx_host::testing::random::Random;
 use ttcrx_host::testing::traffic::{Habit, Traffic, LIVELY, QUIET, RARE};
@@ -32,6 +32,7 @@ struct Runs {
     both: Both<'static>,
     coverage: Coverage,
     accesses: Accesses,
+    quiet: Quiet,
     traffic: Traffic,
     random: Random,
 }
@@ -43,6 +44,7 @@ impl Runs {
         let mut receiver = convert::receiver(&start).expect("well formed");
         self.traffic.start(start.core.ids.id, habit);
         self.coverage.run();
+        self.quiet.run();
         for _ in 0..clocks {
             let (trigger, data) = self.traffic.clock();
             self.call(&mut state, &mut receiver, Call::Clock { trigger, data });
@@ -63,6 +65,7 @@ impl Runs {
         let expected = (expected(receiver, made), convert::state(receiver));
         self.both.same((before, made), (shown, *state), expected);
         self.accesses.call(&before, made, state);
+        self.quiet.call(&before, made);
         match made {
             Call::Clock { data, .. } if made.is_clock() => {
                 let answer = ClockAnswer {
@@ -108,6 +111,7 @@ fn long_runs() {
         both: Both::of("clocks, reads and writes in long runs"),
         coverage: Coverage::default(),
         accesses: Accesses::default(),
+        quiet: Quiet::default(),
         traffic: Traffic::new(60),
         random: Random::new(61),
     };
@@ -123,5 +127,6 @@ fn long_runs() {
     runs.traffic.assert_complete();
     runs.coverage.assert_complete();
     runs.accesses.assert_complete();
+    runs.quiet.assert_complete();
     runs.both.at_least(23_500_000);
 }

@@ -1,9 +1,11 @@
 //! Single clocks from chosen and random well-formed states.
 
 use ttcrx_host::model::Fields;
-use ttcrx_host::sys::{Core, Counters, Errors, Held, Receiver, Sequence};
+use ttcrx_host::sys::{ClockAnswer, Core, Counters, Errors, Held, Receiver, Sequence};
+use ttcrx_host::sys::{VERDICT_NONE, VERDICT_STOP_BIT};
 use ttcrx_host::testing::compare::Both;
-use ttcrx_host::testing::frame::Frame;
+use ttcrx_host::testing::coverage::{assert_seen, Tally};
+use ttcrx_host::testing::frame::{wanting, Frame, RUN};
 use ttcrx_host::testing::library::{Library, Model};
 use ttcrx_host::testing::random::Random;
 use ttcrx_host::testing::{states, verdict};
@@ -45,6 +47,27 @@ fn every_number_of_held_bits() {
         }
     }
     both.at_least((15 + 41) * 2_000 * 4 * 2);
+}
+
+/// Every number of ones wanted: a 1 is one of them, a 0 begins the run again. All else is as on a
+/// receiver that waits, with channel B idle.
+#[test]
+fn every_number_of_ones_wanted() {
+    let both = Both::of("clocks with every number of ones wanted");
+    let mut random = Random::new(43);
+    for ones_wanted in (1..=RUN).flat_map(|wanted| [wanted; 2_000]) {
+        let state = states::quiet(&mut random, ones_wanted);
+        let waiting = Receiver { held: Held::default(), ..state };
+        for (trigger, data) in BITS {
+            let wanted = if data == 1 { ones_wanted - 1 } else { RUN };
+            let idle = both.clock(waiting, trigger, 1);
+            let receiver = Receiver { held: wanting(wanted), ..idle.receiver };
+            let answer = both.clock(state, trigger, data);
+            both.same((state, trigger, data), answer, ClockAnswer { receiver, ..idle });
+            both.same(state, answer.outputs.verdict, VERDICT_NONE);
+        }
+    }
+    both.at_least(41 * 2_000 * 4 * 4);
 }
 
 /// Frames of every fate at ID 5, clean.
@@ -98,6 +121,7 @@ fn held_bits() -> Vec<Held> {
     held
 }
 
+/// Only verdict 7 makes the receiver want ones, and then 41.
 #[test]
 fn last_bits_at_the_edges() {
     let both = Both::of("last bits of frames of every fate at the edges");
@@ -106,19 +130,21 @@ fn last_bits_at_the_edges() {
     for held in held_bits() {
         for &core in &cores {
             for (trigger, data) in BITS {
-                let outputs = both.clock(Receiver { core, held }, trigger, data).outputs;
-                verdicts[usize::from(outputs.verdict)] += 1;
+                let answer = both.clock(Receiver { core, held }, trigger, data);
+                let verdict = answer.outputs.verdict;
+                let wanted = if verdict == VERDICT_STOP_BIT { RUN } else { 0 };
+                both.same((core, held), answer.receiver.held, wanting(wanted));
+                verdicts[usize::from(verdict)] += 1;
             }
         }
     }
     assert!(verdicts[1..].iter().all(|&count| count > 0), "{verdicts:?}");
-    both.at_least(111 * 4 * 108 * 4);
+    both.at_least(2 * 111 * 4 * 108 * 4);
 }
 
 /// After 41 ones the receiver waits. It has finished one frame on the way if it held a bit, else
 /// none. Gives the clock on which that was, or 0.
-fn finished_by_ones(both: &Both, random: &mut Random, triggers: u64) -> usize {
-    let start = states::well_formed(random);
+fn finished_by_ones(both: &Both, random: &mut Random, start: Receiver, triggers: u64) -> usize {
     let mut state = start;
     let mut finished = Vec::new();
     for clock in 1..=41 {
@@ -137,12 +163,16 @@ fn finished_by_ones(both: &Both, random: &mut Random, triggers: u64) -> usize {
 fn it_waits_after_41_ones() {
     let both = Both::of("41 ones from random states");
     let mut clocks = [0; 42];
+    let mut wanted = Tally::of([("ones wanted at first", 0, RUN)]);
     for (seed, triggers) in [(30, 2), (42, 3)] {
         let mut random = Random::new(seed);
         for _ in 0..20_000 {
-            clocks[finished_by_ones(&both, &mut random, triggers)] += 1;
+            let start = states::well_formed(&mut random);
+            clocks[finished_by_ones(&both, &mut random, start, triggers)] += 1;
+            wanted.seen([start.held.ones_wanted]);
         }
     }
     assert!(clocks.iter().all(|&count| count > 0), "{clocks:?}");
+    assert_seen(&[&wanted]);
     both.at_least(2 * 20_000 * 43);
 }

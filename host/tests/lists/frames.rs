@@ -14,7 +14,7 @@ use ttcrx_host::testing::traffic::protected;
 
 /// A list, here with channel B at 1 on every clock, and the frame that it is to carry.
 #[derive(Debug)]
-struct List {
+pub struct List {
     start: Receiver,
     idle: Vec<Call>,
     sent: Sent,
@@ -24,6 +24,11 @@ impl List {
     fn any(random: &mut Random) -> List {
         let mut start = states::well_formed(random);
         start.held = Held::default();
+        List::from(random, start)
+    }
+
+    /// A list from this state, which waits.
+    pub fn from(random: &mut Random, start: Receiver) -> List {
         let sent = Sent::any(random, start.core.ids.id);
         let mix = Mix::any(random);
         let mut idle = Vec::new();
@@ -32,9 +37,14 @@ impl List {
         }
         List { start, idle, sent }
     }
+
+    /// The frame that it is to carry.
+    pub fn frame(&self) -> Frame {
+        self.sent.frame()
+    }
 }
 
-struct Frames<'a> {
+pub struct Frames<'a> {
     runner: Runner<'a>,
     tallies: Tallies,
 }
@@ -76,12 +86,17 @@ fn two_flips((mut outputs, mut state): End) -> End {
 }
 
 impl<'a> Frames<'a> {
-    fn new(library: &'a dyn Library, name: &'static str) -> Frames<'a> {
+    pub fn new(library: &'a dyn Library, name: &'static str) -> Frames<'a> {
         Frames { runner: Runner::new(library, name), tallies: Tallies::default() }
     }
 
-    /// The list idle, clean, and with each of these flips.
-    fn list(&mut self, list: &List, flips: &[u64]) {
+    #[track_caller]
+    pub fn at_least(&self, count: u64) {
+        self.runner.cases.at_least(count);
+    }
+
+    /// The list idle, clean, and with each of these flips. Gives the verdict of the clean one.
+    pub fn list(&mut self, list: &List, flips: &[u64]) -> u8 {
         let idle = self.runner.run(list.start, &list.idle);
         let waits = (idle.last().verdict, idle.end.held);
         self.runner.cases.same(list, waits, (0, Held::default()));
@@ -95,6 +110,7 @@ impl<'a> Frames<'a> {
             };
             self.carries(list, flipped, &idle, expected);
         }
+        clean.0.verdict
     }
 
     /// The list with the bits of the frame, these flipped: "each clock before the last has verdict
@@ -118,13 +134,13 @@ pub fn check(library: &dyn Library, seed: u64, lists: u64) {
     let mut random = Random::new(seed);
     for _ in 0..lists {
         let list = List::any(&mut random);
-        let frame = list.sent.frame();
+        let frame = list.frame();
         let flips = [1, 1, 2, 2].map(|count| protected(&mut random, frame, count));
         frames.list(&list, &flips);
     }
     frames.tallies.assert_complete();
     frames.runner.accesses.assert_complete();
-    frames.runner.cases.at_least(lists * 6 * 30);
+    frames.at_least(lists * 6 * 30);
 }
 
 /// Every flip of one and of two protected bits.
@@ -144,12 +160,12 @@ pub fn check_all_flips(library: &dyn Library, seed: u64) {
     let mut random = Random::new(seed);
     for _ in 0..100 {
         let list = List::any(&mut random);
-        let flips = all_flips(list.sent.frame());
+        let flips = all_flips(list.frame());
         match list.sent {
             Sent::Short(_) => assert_eq!(flips.len(), 13 + 78),
             Sent::Long(_) => assert_eq!(flips.len(), 39 + 741),
         }
         frames.list(&list, &flips);
     }
-    frames.runner.cases.at_least(3_000_000);
+    frames.at_least(3_000_000);
 }

@@ -1,8 +1,10 @@
-//! "Demand 3, over lists of calls" of document 01 as a property of any library: of the model, of
-//! the proved library, and of the latter with every answer compared with the model's. What is
-//! expected comes from the paper's words; the model's clock is not asked.
+//! "Demand 3, over lists of calls" of document 01, and Q-1 of document 02 over such lists, as
+//! properties of any library: of the model, of the proved library, and of the latter with every
+//! answer compared with the model's. What is expected comes from the papers' words; the model's
+//! clock is not asked.
 
 mod frames;
+mod quiet;
 mod runner;
 mod sent;
 mod tallies;
@@ -44,5 +46,25 @@ fn the_library_receives_frames() {
 fn the_library_answers_like_the_model_and_receives_frames() {
     let both = Both::of("calls of lists that carry a frame");
     frames::check(&both, 84, 20_000);
+    both.at_least(5_000_000);
+}
+
+#[test]
+fn the_model_is_quiet_after_a_bad_stop() {
+    quiet::check(&Model, 85, 10_000);
+    quiet::check_40_ones(&Model, 86, 10_000);
+}
+
+#[test]
+fn the_library_is_quiet_after_a_bad_stop() {
+    quiet::check(&Proved, 85, 10_000);
+    quiet::check_40_ones(&Proved, 86, 10_000);
+}
+
+#[test]
+fn the_library_answers_like_the_model_and_is_quiet() {
+    let both = Both::of("calls of lists after a bad stop bit");
+    quiet::check(&both, 87, 10_000);
+    quiet::check_40_ones(&both, 88, 10_000);
     both.at_least(5_000_000);
 }

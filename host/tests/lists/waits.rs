@@ -11,11 +11,13 @@ use ttcrx_host::testing::traffic::{Traffic, LIVELY};
 use ttcrx_host::testing::{states, verdict};
 
 const ONES: usize = 41;
+const MORE: (&str, u8, u8) = ("more than 41 clocks", 0, 1);
 
 tallies! {
     /// What the lists did to channel B before they ended.
     struct Ends {
-        starts: [("held bits at first", 0, 41), ("more than 41 clocks", 0, 1)],
+        starts: [("held bits at first", 0, 41), MORE],
+        wanted: [("ones wanted at first", 0, 41), MORE],
         verdicts: [verdict::ANY],
         finishes: [("of the last 41 clocks a frame ended on (0: on none)", 0, 41)],
         zeros: [("refused clocks with a 0 among the last 41", 0, 3)],
@@ -33,6 +35,7 @@ impl Ends {
         let (front, last) = clocks.split_at(clocks.len() - ONES);
         let more = !front.is_empty();
         self.starts.seen([run.start.held.count, more.into()]);
+        self.wanted.seen([run.start.held.ones_wanted, more.into()]);
         let finish = last.iter().position(|&verdict| verdict != 0);
         let finish = finish.map_or(0, |place| place as u8 + 1);
         self.finishes.seen([finish]);
@@ -84,7 +87,7 @@ fn waits(runner: &Runner, calls: &[Call], run: &Run, trigger: u8) {
     let mut state = run.end;
     runner.cases.same(input, state.held, Held::default());
     let shown = call(runner.library, &mut state, Call::Clock { trigger, data: 0 });
-    let start_bit = Held { count: 1, bits: 0 };
+    let start_bit = Held { count: 1, ..Held::default() };
     let answer = (shown.refusal, shown.outputs.verdict, state.held);
     runner.cases.same(input, answer, (0, 0, start_bit));
 }
@@ -105,5 +108,6 @@ pub fn check(library: &dyn Library, seed: u64, lists: u64) {
     }
     tallies.assert_complete();
     runner.accesses.assert_complete();
+    runner.quiet.assert_complete();
     runner.cases.at_least(lists * 100);
 }

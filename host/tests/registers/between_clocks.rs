@@ -4,7 +4,7 @@ use ttcrx_host::sys::{Receiver, Sequence};
 use ttcrx_host::sys::{STROBE_EVENT_HIGH, STROBE_EVENT_LOW, STROBE_NONE};
 use ttcrx_host::testing::compare::Both;
 use ttcrx_host::testing::example;
-use ttcrx_host::testing::frame::{send, Frame};
+use ttcrx_host::testing::frame::{send, wanting, Frame, RUN};
 use ttcrx_host::testing::library::{Library, Model};
 
 /// The register holds this byte.
@@ -24,7 +24,8 @@ fn send_all(both: &Both, state: Receiver, frames: &[Frame]) -> Receiver {
     frames.iter().fold(state, after)
 }
 
-/// "end 2 2 0 174", and coarse delay 35; the bit 5 that line 3 clears is set by the next frame.
+/// "end 2 2 0 215", and coarse delay 35; the bit 5 that line 3 clears stays so while ones are
+/// wanted, and is set by the next frame.
 #[test]
 fn the_end_of_the_example() {
     let both = Both::of("registers at the end of the example");
@@ -32,12 +33,14 @@ fn the_end_of_the_example() {
     let fresh = Model.fresh(5, 5).receiver;
     let slipped = send_all(&both, fresh, &frames[..3]);
     holds(&both, slipped, 22, 0xC0);
-    let end = send_all(&both, slipped, &frames[3..]);
-    let bytes = [(2, 0x35), (8, 2), (9, 0), (10, 2), (22, 0xE0), (24, 174), (25, 0), (26, 0)];
+    let waiting = send(&both, slipped, Frame::ones(RUN)).receiver;
+    holds(&both, waiting, 22, 0xC0);
+    let end = send_all(&both, waiting, &frames[3..]);
+    let bytes = [(2, 0x35), (8, 2), (9, 0), (10, 2), (22, 0xE0), (24, 215), (25, 0), (26, 0)];
     for (number, byte) in bytes {
         holds(&both, end, number, byte);
     }
-    both.at_least(4 * 16 + 3 * 42 + 2 * 9);
+    both.at_least(4 * 16 + 3 * 42 + 41 + 2 * 10);
 }
 
 /// Cleared in the middle of line 2, after its first 7 bits: the frame is received all the same, and
@@ -54,6 +57,28 @@ fn a_write_between_two_bits() {
     holds(&both, after, 24, 9);
     holds(&both, after, 8, 1);
     both.at_least(16 + 2 * 4);
+}
+
+/// Registers in a run of ones after a bad stop bit: writes are done, reads show what was written,
+/// and the run goes on.
+#[test]
+fn accesses_in_a_run_of_ones() {
+    let both = Both::of("accesses between the ones after a bad stop bit");
+    let slipped = example::frames()[2];
+    let mut state = send(&both, Model.fresh(5, 5).receiver, slipped).receiver;
+    holds(&both, state, 10, 1);
+    state = write(&both, state, 10, 0);
+    for ones in 1..=RUN {
+        state = write(&both, state, 2, ones);
+        state = write(&both, state, 24, 0);
+        state = both.clock(state, 0, 1).receiver;
+        both.same(ones, state.held, wanting(RUN - ones));
+        holds(&both, state, 2, ones);
+        holds(&both, state, 24, 1);
+        holds(&both, state, 22, 0xC0);
+    }
+    holds(&both, state, 10, 0);
+    both.at_least(41 * (2 * 2 + 2 + 3 * 2));
 }
 
 /// "A later write to the control register doesn't alter a running sequence"; a write that clears

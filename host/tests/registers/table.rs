@@ -5,6 +5,7 @@ use ttcrx_host::sys::{ReadAnswer, Receiver, WriteAnswer};
 use ttcrx_host::sys::{REFUSED_CONFIG, REFUSED_READ_ONLY, REFUSED_REGISTER, REFUSED_STATE};
 use ttcrx_host::testing::compare::Both;
 use ttcrx_host::testing::convert::{refused_clock, refused_write, Answer};
+use ttcrx_host::testing::frame::wanting;
 use ttcrx_host::testing::library::{Library, Model};
 use ttcrx_host::testing::random::Random;
 use ttcrx_host::testing::states;
@@ -25,7 +26,7 @@ const STATE: Receiver = Receiver {
         counters: Counters { bunch: 0x0DC4, event: 0xE8_D7F6 },
         sequence: Sequence { left: 2, event: 0x12_3456 },
     },
-    held: Held { count: 20, bits: 0x4_5678 },
+    held: Held { count: 20, ones_wanted: 0, bits: 0x4_5678 },
 };
 
 /// The registers, the bytes of this state, and those of the fresh one of its IDs. Low byte first.
@@ -114,7 +115,8 @@ fn writes() {
     let both = Both::of("writes of the table");
     let mut random = Random::new(75);
     let random_states = (0..20).map(|_| states::well_formed(&mut random));
-    for state in [STATE].into_iter().chain(random_states) {
+    let quiet = Receiver { held: wanting(17), ..STATE };
+    for state in [STATE, quiet].into_iter().chain(random_states) {
         for number in 0..=255 {
             for value in 0..=255 {
                 let answer = both.write(state, number, value);
@@ -123,7 +125,7 @@ fn writes() {
             }
         }
     }
-    both.at_least(2 * 21 * 65_536);
+    both.at_least(2 * 22 * 65_536);
 }
 
 /// A stored byte is read back; a cleared counter is 0 in each of its bytes; the rest stays.

@@ -36,11 +36,14 @@ fn says(both: &Both<'static>, report: Report, expected: &str) {
 #[test]
 fn ends_by_hand() {
     let both = Both::of("ends written out by hand");
-    let ends: [(u64, LinePart, &str); 9] = [
+    let ends: [(u64, LinePart, &str); 11] = [
         (0, front(b""), "end 0 0 0 0\n"),
         (9, front(b""), "end 0 0 0 0\n"),
         (9, front(b"2097"), "10 1 1 02\nend 1 0 0 16\n"),
         (0, front(b"304F"), "1 8 0 -\nend 0 1 0 16\n"),
+        // 41 ones after the last line too.
+        (0, front(b"004E"), "1 7 0 -\nend 0 1 0 57\n"),
+        (1, front(b"100150235AC"), "2 7 0 -\nend 0 1 0 83\n"),
         (0, front(b"100"), "1 ! 10\nend 0 0 0 0\n"),
         (u64::MAX, front(b"20G7"), "0 ! 11\nend 0 0 0 0\n"),
         (7, front(b"4001"), "8 ! 12\nend 0 0 0 0\n"),
@@ -52,7 +55,7 @@ fn ends_by_hand() {
         let report = Report { receiver, lines, part };
         says(&both, report, expected);
     }
-    both.at_least(9 * 5);
+    both.at_least(11 * 5);
 }
 
 /// The greatest numbers: those of a receiver that waits, and any of one that is ill-formed.

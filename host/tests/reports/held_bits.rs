@@ -6,6 +6,7 @@ use crate::driver::Driver;
 use crate::inputs::{input, within_a_frame};
 use ttcrx_host::model::Kind;
 use ttcrx_host::sys::{Held, Report, LONGEST_END, LONGEST_LINE};
+use ttcrx_host::sys::{VERDICT_BROADCAST, VERDICT_NONE, VERDICT_STOP_BIT, VERDICT_UNCORRECTABLE};
 use ttcrx_host::testing::compare::Both;
 use ttcrx_host::testing::coverage::{assert_seen, Tally};
 use ttcrx_host::testing::frame::Frame;
@@ -49,7 +50,7 @@ fn receivers_within_a_frame() {
 }
 
 /// How many bits are held, the bits, a line, and what is printed of it, all by hand.
-const BY_HAND: [(u8, u64, &str, &str); 9] = [
+const BY_HAND: [(u8, u64, &str, &str); 11] = [
     // 100150235AD: 26 bits of it, and its last 16 as a line.
     (26, 0x0100_1502, "35AD\n", "1 2 0 35\n"),
     (26, 0x0180_1502, "35AD\n", "1 2 1 35\n"),
@@ -59,16 +60,19 @@ const BY_HAND: [(u8, u64, &str, &str); 9] = [
     (6, 0, "11B00013FCD\n", "1 1 0 000000FF\n"),
     (6, 0, "11B00010095\n", "1 1 1 00000002\n"),
     (6, 0, "11B00010039\n", "1 8 0 -\n"),
-    // The last bit is idle.
+    // The frame finishes before the last bit, in 0001 with stop bit 0.
     (1, 0, "0001\n", "1 0 0 00\n"),
     (1, 0, "1FFFFFFFFFF\n", "1 0 0 00000000\n"),
+    // The line's start bit is the stop bit of the frame held: no frame of the line is taken.
+    (15, 0x0027, "2097\n", "1 0 0 00\n"),
+    (41, 0x0080_0A81_1AD6, "100150235AD\n", "1 0 0 00000000\n"),
 ];
 
 #[test]
 fn words_by_hand() {
     let both = Both::of("words after held bits, by hand");
     for (count, bits, line, expected) in BY_HAND {
-        let report = holding(Held { count, bits });
+        let report = holding(Held { count, bits, ..Held::default() });
         let text = said(&both, report, line.as_bytes());
         both.same(line, text.as_str(), expected);
         // The same without line feed, at the end of the input.
@@ -77,7 +81,7 @@ fn words_by_hand() {
         driver.end(LONGEST_END);
         both.same(line, driver.text().starts_with(expected), true);
     }
-    both.at_least(17 * 9);
+    both.at_least(17 * 11);
 }
 
 /// A frame of this kind and of any fate for which the test holds.
@@ -119,22 +123,27 @@ fn long_frames_by_short_lines() {
     both.at_least(7 * 5_000);
 }
 
-/// The receiver holds 6 bits of a short frame; its last 10 and two more are a long line.
+/// The receiver holds 6 bits of a short frame; its last 10 and two more are a long line. If the
+/// first or the second has stop bit 0, the third is not taken: no frame finishes with the line.
 #[test]
 fn short_frames_by_long_lines() {
     let both = Both::of("short frames finished by long lines");
     let mut random = Random::new(325);
-    let mut fates = Tally::of([("fate (executed, stop bit, uncorrectable)", 0, 2)]);
+    let mut fates = Tally::of([("fate (executed, stop bit, uncorrectable, none)", 0, 3)]);
     for _ in 0..5_000 {
         let first = frame(&mut random, Kind::Short, |number| number >> 8 & 3 == 1);
         let [second, third] = [(); 2].map(|_| frame(&mut random, Kind::Short, |_| true).number);
         let line = format!("{:03X}{second:04X}{third:04X}\n", first.back(10).number);
-        fates.seen([match verdict(&both, first.front(6).held(), &line, 8) {
-            1 => 0,
-            7 => 1,
-            _ => 2,
+        let verdict = verdict(&both, first.front(6).held(), &line, 8);
+        let quiet = first.number & second & 1 == 0;
+        both.same(&line, verdict == VERDICT_NONE, quiet);
+        fates.seen([match verdict {
+            VERDICT_BROADCAST => 0,
+            VERDICT_STOP_BIT => 1,
+            VERDICT_UNCORRECTABLE => 2,
+            _ => 3,
         }]);
     }
     assert_seen(&[&fates]);
-    both.at_least(7 * 5_000);
+    both.at_least(8 * 5_000);
 }

@@ -1,16 +1,23 @@
 //! Random inputs and random reports.
 
 use ttcrx_host::sys::{Held, LinePart, Report};
+use ttcrx_host::testing::frame::RUN;
 use ttcrx_host::testing::lines::{lines, EVERY_KIND};
 use ttcrx_host::testing::random::Random;
 use ttcrx_host::testing::states;
+
+/// The line of a start bit and 41 ones: any receiver waits after it.
+const ONES: &[u8] = b"1FFFFFFFFFF\n";
 
 /// Up to so many random lines, often without the last line feed. None is longer than a few dozen
 /// bytes.
 pub fn input(random: &mut Random, count: u64) -> Vec<u8> {
     let count = random.below(count + 1) as usize;
     let mut input = lines(random, &EVERY_KIND, count);
-    if input.len() > 40 * count {
+    if random.once_in(8) {
+        input.splice(..0, ONES.iter().copied());
+    }
+    if input.len() > 40 * (count + 1) {
         input = b"2097\n11111111111111111111111111111\n004E\n".to_vec();
     }
     let cut = random.below(13) as usize;
@@ -57,9 +64,14 @@ pub fn report(random: &mut Random) -> Report {
     Report { receiver, lines: line_count(random), part: part(random) }
 }
 
-/// A report whose receiver is well formed, mostly within a frame.
+/// A report whose receiver is well formed, mostly within a frame, else waiting or with ones wanted.
 pub fn within_a_frame(random: &mut Random) -> Report {
     Report { receiver: states::well_formed(random), ..report(random) }
+}
+
+/// A report whose receiver wants so many ones.
+pub fn quiet(random: &mut Random, ones_wanted: u8) -> Report {
+    Report { receiver: states::quiet(random, ones_wanted), ..report(random) }
 }
 
 /// A report whose receiver is of any kind, mostly not well formed.
@@ -76,9 +88,11 @@ pub fn any_report(random: &mut Random) -> Report {
 
 /// A report of any of these kinds.
 pub fn every_kind(random: &mut Random) -> Report {
-    match random.below(4) {
+    let ones_wanted = 1 + random.below(RUN.into()) as u8;
+    match random.below(5) {
         0 => within_a_frame(random),
         1 => any_report(random),
+        2 => quiet(random, ones_wanted),
         _ => report(random),
     }
 }

@@ -1,5 +1,5 @@
 //! `ttcrx_report_start`, `_input` and `_end` against the model. A report in pieces says what the
-//! program `ttclines` of document 01 says of the whole input.
+//! program `ttclines` of document 01, with Q-1 of document 02, says of the whole input.
 
 mod calls;
 mod driver;
@@ -7,5 +7,6 @@ mod ends;
 mod held_bits;
 mod inputs;
 mod pieces;
+mod quiet;
 mod receivers;
 mod rooms;

@@ -58,7 +58,7 @@ fn every_cut() {
 #[test]
 fn every_two_cuts() {
     let both = Both::of("inputs cut in three everywhere");
-    let input = b"004F\n100150235AD\n\n1111\r\n11111111111111\n180150235AD\n3F";
+    let input = b"004F\n004E\n100150235AD\n\n1111\r\n11111111111111\n180150235AD\n004E";
     for first in 0..=input.len() {
         for second in first..=input.len() {
             let (front, back) = input.split_at(second);

@@ -105,7 +105,7 @@ fn edges_of_well_formed() {
         let refused = format!("1 ! 2\n2 ! 2\nend {single} {double} {event} {bunch}\n");
         both.same(edge, text == refused, !edge.good);
     }
-    both.at_least((25 + 512 + 2_048 + 49_408) * 11);
+    both.at_least(edges::STATES * 11);
 }
 
 /// What a line of a report says after its number.

@@ -1,4 +1,4 @@
-//! Outputs by hand: the example of document 01, and the smallest inputs.
+//! Outputs by hand: the example of document 01, lines with verdict 7, and the smallest inputs.
 
 use crate::compare::{same, same_text};
 use crate::program;
@@ -26,7 +26,7 @@ fn the_example_of_document_01() {
 }
 
 /// Inputs, and what is printed of them.
-const BY_HAND: [(&str, &str); 23] = [
+const BY_HAND: [(&str, &str); 30] = [
     // Other examples of document 01: RESET, E = 1, 0095 and 0039, the stray 0 in idle.
     (
         "0095\n0039\n1FFFFFFFFFF\n1001710AAB7\n10001023543\n100150600F3\n3FCD\n00D9\n0001",
@@ -37,6 +37,14 @@ const BY_HAND: [(&str, &str); 23] = [
     // format and stop.
     ("10000000001\n", "1 9 0 00000000\nend 0 1 0 42\n"),
     ("10000000003\n", "1 9 0 00000000\nend 0 1 0 42\n"),
+    // 41 ones after each line with verdict 7, wherever it stands; none after 8 and 9.
+    ("004E\n", "1 7 0 -\nend 0 1 0 57\n"),
+    ("004E", "1 7 0 -\nend 0 1 0 57\n"),
+    ("100150235AC\n0001\n", "1 7 0 -\n2 1 0 00\nend 0 1 0 99\n"),
+    ("0001\n004E\n0001", "1 1 0 00\n2 7 0 -\n3 1 0 00\nend 0 1 0 89\n"),
+    ("004E\n100150235AC\n004E", "1 7 0 -\n2 7 0 -\n3 7 0 -\nend 0 3 0 197\n"),
+    ("004E\n4001\n\n2097\n", "1 7 0 -\n2 ! 12\n3 ! 10\n4 1 1 02\nend 1 1 0 73\n"),
+    ("304F\n10000000001\n0001", "1 8 0 -\n2 9 0 00000000\n3 1 0 00\nend 0 2 0 74\n"),
     // No line, and empty ones.
     ("", "end 0 0 0 0\n"),
     ("\n", "1 ! 10\nend 0 0 0 0\n"),
@@ -70,5 +78,5 @@ fn small_inputs() {
     for (input, output) in BY_HAND {
         says(&cases, input, output);
     }
-    cases.at_least(23 * 4);
+    cases.at_least(30 * 4);
 }

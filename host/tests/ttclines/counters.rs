@@ -61,19 +61,20 @@ fn single_errors_stop_at_the_top() {
     cases.at_least(3 * 6);
 }
 
+/// A line with verdict 7 is followed by 41 ones.
 #[test]
 fn double_errors_stop_at_the_top() {
     let cases = Cases::of("double errors up to their top");
-    for (line, clocks) in [(UNCORRECTABLE, 16), (STOP_BIT, 16), (FIXED_BIT, 42)] {
+    for (line, clocks) in [(UNCORRECTABLE, 16), (STOP_BIT, 16 + 41), (FIXED_BIT, 42)] {
         for (lines, double) in [(254, 254), (255, 255), (256, 255), (300, 255)] {
             let end = format!("end 0 {double} 0 {}", lines * clocks % 4096);
             ends(&cases, &line.repeat(lines), &end);
         }
     }
     let all = [UNCORRECTABLE, STOP_BIT, FIXED_BIT].concat().repeat(100);
-    ends(&cases, &(all.clone() + CORRECTED), "end 1 255 0 3320");
+    ends(&cases, &(all.clone() + CORRECTED), "end 1 255 0 3324");
     let cleared = all + &line(reset(0)) + STOP_BIT;
-    ends(&cases, &cleared, "end 0 1 0 16");
+    ends(&cases, &cleared, "end 0 1 0 57");
     cases.at_least(3 * 14);
 }
 
@@ -91,13 +92,27 @@ fn the_bunch_count_wraps() {
     cases.at_least(3 * 9);
 }
 
+/// 16 clocks of a line with stop bit 0 and 41 ones, the wrap in the line or in the ones.
+#[test]
+fn the_bunch_count_wraps_in_the_ones() {
+    let cases = Cases::of("bunch counts around 4096 with verdict 7");
+    for (lines, bunch) in [(71, 4047), (72, 8), (143, 4055), (144, 16)] {
+        let input = STOP_BIT.repeat(lines);
+        let double = lines.min(255);
+        for input in [input.as_str(), input.trim_end()] {
+            ends(&cases, input, &format!("end 0 {double} 0 {bunch}"));
+        }
+    }
+    cases.at_least(3 * 8);
+}
+
 /// Refused lines send no bit: no counter moves.
 #[test]
 fn refused_lines_count_nothing() {
     let cases = Cases::of("refused lines between frames");
     for refused in ["\n", "0\n", "00010\n", "000G\n", "4000\n", "00000000000\n"] {
         let input = [CORRECTED, refused, STOP_BIT, refused, refused].concat();
-        ends(&cases, &input, "end 1 1 0 32");
+        ends(&cases, &input, "end 1 1 0 73");
     }
     cases.at_least(3 * 6);
 }
@@ -113,12 +128,12 @@ fn resets() {
             ends(&cases, &input, "end 0 0 0 0");
             ends(&cases, &(input + CORRECTED), "end 1 0 0 16");
         }
-        for bits in [1, 3, 1 << 8 | 1 << 9, 1 << 2 | 1 << 30] {
+        for (bits, bunch) in [(1, 172), (3, 172), (1 << 8 | 1 << 9, 131), (1 << 2 | 1 << 30, 131)] {
             let input = before.clone() + &line(reset.flipped(bits));
-            ends(&cases, &input, "end 1 3 0 90");
+            ends(&cases, &input, &format!("end 1 3 0 {bunch}"));
         }
     }
-    ends(&cases, &(before + &line(reset(4))), "end 1 2 0 90");
+    ends(&cases, &(before + &line(reset(4))), "end 1 2 0 131");
     same(&cases, "RESET alone", line(reset(5)).as_bytes());
     cases.at_least(3 * 33 + 2);
 }

@@ -1,5 +1,6 @@
-//! The program `ttclines` of document 01, "Stored lines": its whole output, byte for byte, beside
-//! that of the model. TTCLINES names the program, else it is ../target/bin/ttclines.
+//! The program `ttclines` of document 01, "Stored lines", with Q-1 of document 02: its whole
+//! output, byte for byte, beside that of the model. TTCLINES names the program, else it is
+//! ../target/bin/ttclines.
 
 mod by_hand;
 mod characters;

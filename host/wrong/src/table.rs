@@ -84,6 +84,62 @@ table! {
     Clock clock::outside_before_address, "clock":
         "verdict 4 is tested before 5";
 
+    // Quiet after a bad stop bit: Q-1 of document 02.
+    Clock quiet::forty_ones, "clock ones_wanted" "lists quiet":
+        "40 ones in a row are enough after a bad stop bit";
+    Clock quiet::forty_two_ones, "clock ones_wanted" "lists quiet":
+        "42 ones in a row are wanted after a bad stop bit";
+    Clock quiet::zero_keeps_the_run, "clock ones_wanted" "lists quiet":
+        "a 0 in the run does not begin it again";
+    Clock quiet::zero_starts_a_frame, "clock ones_wanted" "lists quiet":
+        "a 0 in the run is taken as a start bit";
+    Clock quiet::quiet_after_8, "clock last_bits" "lists receives_frames":
+        "verdict 8 makes the receiver want ones too";
+    Clock quiet::quiet_after_9, "clock last_bits":
+        "verdict 9 makes the receiver want ones too";
+    Clock quiet::fifteen_ones_after_a_short_frame, "clock last_bits" "lists quiet":
+        "after a short frame with a bad stop bit only 15 ones are wanted";
+    Clock quiet::ones_with_triggers_not_counted, "clock ones_wanted" "lists quiet" "lists waits":
+        "a one on a clock with a trigger does not count in the run";
+    Clock quiet::refused_clock_begins_again, "clock ones_wanted" "lists quiet":
+        "a clock that is refused by 1 begins the run again";
+    Clock quiet::bunch_stands_in_the_run, "clock ones_wanted" "lists quiet":
+        "the bunch counter does not count the clocks of the run";
+    Clock quiet::trigger_ignored_in_the_run, "clock ones_wanted" "lists quiet":
+        "a trigger on a clock of the run is not taken";
+    Clock quiet::run_sets_status, "clock ones_wanted" "lists quiet" "registers between_clocks":
+        "the end of the run sets status bit 5";
+    Write quiet::write_ends_the_run, "registers between_clocks" "registers writes" "lists quiet":
+        "a register write ends the run";
+    Fresh quiet::fresh_wants_ones, "fresh":
+        "a fresh receiver wants 41 ones";
+    WellFormed quiet::forty_two_wanted_accepted, "clock ones_wanted" "fresh":
+        "42 ones wanted are well formed";
+    WellFormed quiet::ones_wanted_beside_bits, "clock ones_wanted" "fresh":
+        "ones wanted beside held bits are well formed";
+    Clock quiet::forty_one_wanted_refused, "clock ones_wanted" "lists quiet":
+        "a state that wants 41 ones is refused by 2";
+    Receive quiet::frame_taken_in_the_run, "receive":
+        "a receiver that wants ones takes a whole frame as if it waited";
+    RunBlock quiet::block_begins_the_run_again, "blocks quiet" "blocks cuts":
+        "a block begins the run again: 41 ones are wanted";
+    RunBlock quiet::block_ends_the_run, "blocks quiet" "blocks cuts":
+        "a block ends the run: the receiver waits";
+    RunBlock quiet::block_hunts_at_once, "blocks quiet":
+        "within a block the receiver waits at once after a bad stop bit";
+    ReportInput quiet::no_ones_after_7, "reports quiet" "examples":
+        "no ones are sent after a line with verdict 7";
+    ReportInput quiet::ones_before_the_next_line, "reports quiet":
+        "the ones are sent before the next line, and none after the last";
+    ReportEnd quiet::no_ones_after_the_last_line, "reports quiet" "reports ends":
+        "no ones are sent after a last line without line feed";
+    ReportInput quiet::ones_count_no_bunches, "reports quiet" "examples":
+        "the bunch counter does not count the ones after a line with verdict 7";
+    ReportInput quiet::ones_after_8, "reports quiet" "examples":
+        "ones are sent after a line with verdict 8 too";
+    ReportInput quiet::ones_after_every_line_in_a_run, "reports quiet" "reports held_bits":
+        "ones are sent after each line that leaves the receiver wanting ones";
+
     // Registers.
     Read registers::register_before_state, "registers":
         "refusal 5 comes before 2 in a read";

@@ -53,7 +53,7 @@ Programs: input from a file, output to a file, both in
 {}.
 Best of three runs by wall time, start and end of the process included. The page cache is not
 cleared: each input is read once before. MB: 1,000,000 bytes; kB: 1,024 bytes.
-ttclines_model feeds each frame bit by bit to the model's clock.
+ttclines_model feeds each frame, and 41 ones after verdict 7, bit by bit to the model's clock.
 Input: random lines of a fixed seed. {}
 ",
         folder.display(),

@@ -1,5 +1,6 @@
 //! The traces of both channels that are clocked through the receivers.
 
+use ttcrx_host::testing::frame::{Frame, RUN};
 use ttcrx_host::testing::lines::{any_frame, MOSTLY_CLEAN};
 use ttcrx_host::testing::random::Random;
 
@@ -36,6 +37,11 @@ pub const TRIGGERS: [Pattern; 2] = [
     Pattern { name: "a trigger on every clock", gap: 200, triggers: 1 },
 ];
 
+/// The ones after a frame: 41 if its stop bit is 0, so that the receiver takes the next one.
+pub fn after(frame: Frame) -> Frame {
+    Frame::ones(if frame.stops_badly() { RUN } else { 0 })
+}
+
 impl Pattern {
     pub fn clocks(&self) -> Vec<Bits> {
         let mut random = Random::new(SEED);
@@ -45,7 +51,7 @@ impl Pattern {
                 clocks.push(self.clock(&mut random, true));
             }
             let frame = any_frame(&mut random, &MOSTLY_CLEAN);
-            for bit in frame.bits() {
+            for bit in frame.bits().chain(after(frame).bits()) {
                 clocks.push(self.clock(&mut random, bit == 1));
             }
         }

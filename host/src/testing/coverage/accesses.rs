@@ -35,11 +35,13 @@ tallies! {
 }
 
 impl Accesses {
-    /// A call, and the states before and after it.
+    /// A call, and the states before and after it. `Quiet` counts those with ones wanted.
     #[inline]
     pub fn call(&mut self, before: &Receiver, call: Call, after: &Receiver) {
         let left = before.core.sequence.left;
-        self.held.seen([kind(call), before.held.count]);
+        if before.held.ones_wanted == 0 {
+            self.held.seen([kind(call), before.held.count]);
+        }
         self.left.seen([kind(call), left]);
         let within = (before.held.count > 0).into();
         match call {

@@ -1,12 +1,14 @@
 //! Counts what the clocks of a test have shown, so that the test can name what it did not see.
 
 mod accesses;
+mod quiet;
 mod tally;
 
 use super::verdict;
 use crate::sys::{ClockAnswer, Receiver};
 use crate::tallies;
 pub use accesses::{kind, Accesses, KINDS};
+pub use quiet::Quiet;
 pub use tally::{assert_seen, Seen, Tally};
 
 tallies! {

@@ -1,4 +1,5 @@
-//! States at the edges of "Well formed" of document 01, clause by clause.
+//! States at the edges of "Well formed" of document 01, clause by clause, and of what Q-1 of
+//! document 02 adds.
 
 use super::well_formed;
 use crate::sys::{Core, Held, Receiver, Sequence};
@@ -112,7 +113,7 @@ pub fn held_bits(random: &mut Random) -> Vec<Edge> {
     for count in 0..=255u8 {
         let mut state = well_formed(random);
         let mut number = |bits, good| {
-            state.held = Held { count, bits };
+            state.held = Held { count, bits, ..Held::default() };
             let name = "held";
             edges.push(Edge { name, good, state });
         };
@@ -128,9 +129,43 @@ pub fn held_bits(random: &mut Random) -> Vec<Edge> {
     edges
 }
 
+/// Held bits that are well formed where no ones are wanted: as few and as many as there may be, of
+/// both frames.
+const HELD: [(u8, u64); 8] = [
+    (1, 0),
+    (2, 0),
+    (2, 1),
+    (15, 0),
+    (15, 0x1FFF),
+    (16, 0x4000),
+    (41, 1 << 39),
+    (41, (1 << 40) - 1),
+];
+
+/// Every number of ones wanted: without held bits, beside some, and beside a bit with no bit held.
+pub fn ones_wanted(random: &mut Random) -> Vec<Edge> {
+    let mut edges = Vec::new();
+    for ones_wanted in 0..=255 {
+        let mut beside = |(count, bits), good| {
+            let held = Held { count, ones_wanted, bits };
+            let state = Receiver { held, ..well_formed(random) };
+            edges.push(Edge { name: "ones wanted", good, state });
+        };
+        beside((0, 0), ones_wanted <= 41);
+        beside((0, 1), false);
+        for bits in HELD {
+            beside(bits, ones_wanted == 0);
+        }
+    }
+    edges
+}
+
+/// How many edges all clauses have, at the least.
+pub const STATES: u64 = 25 + 2 * 256 + 8 * 256 + 193 * 256 + 10 * 256;
+
 /// The edges of all clauses.
 pub fn all(random: &mut Random) -> Vec<Edge> {
-    let clauses = [numbers, config_bytes, words_left, held_bits];
+    let clauses = [numbers, config_bytes, words_left, held_bits, ones_wanted];
     let edges = clauses.map(|edges| edges(random));
     edges.concat()
 }

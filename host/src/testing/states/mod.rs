@@ -2,6 +2,7 @@
 
 pub mod edges;
 
+use super::frame::{wanting, RUN};
 use super::random::Random;
 use super::traffic;
 use crate::sys::{Core, Counters, Errors, Held, Ids, Receiver, Sequence, Settings};
@@ -16,10 +17,13 @@ fn below(random: &mut Random, limit: u64) -> u64 {
     }
 }
 
-/// The bits of a frame that has not arrived whole; often all but the last.
+/// It waits, or wants ones, or mostly holds the bits of a frame that has not arrived whole; often
+/// all but the last.
 fn held(random: &mut Random, id: u16) -> Held {
-    if random.once_in(4) {
-        return Held::default();
+    match random.below(5) {
+        0 => return Held::default(),
+        1 => return wanting(1 + below(random, RUN.into()) as u8),
+        _ => {}
     }
     let frame = traffic::frame(random, id);
     let missing = match random.once_in(2) {
@@ -78,8 +82,14 @@ pub fn holding(random: &mut Random, count: u8, format: u64) -> Receiver {
         1 => 0,
         _ => format << (count - 2) | after,
     };
-    state.held = Held { count, bits };
+    state.held = Held { count, bits, ..Held::default() };
     state
+}
+
+/// A well-formed state that wants so many ones.
+pub fn quiet(random: &mut Random, ones_wanted: u8) -> Receiver {
+    let held = wanting(ones_wanted);
+    Receiver { held, ..well_formed(random) }
 }
 
 /// Any values in all fields, small ones among them.
@@ -93,7 +103,8 @@ pub fn garbage(random: &mut Random) -> Receiver {
         config2: byte(),
         config3: byte(),
     };
-    let (i2c, double_errors, status5, left, count) = (byte(), byte(), byte(), byte(), byte());
+    let (i2c, double_errors, status5, left) = (byte(), byte(), byte(), byte());
+    let (count, ones_wanted) = (byte(), byte());
     Receiver {
         core: Core {
             ids: Ids { id: random.any_length() as u16, i2c },
@@ -105,7 +116,7 @@ pub fn garbage(random: &mut Random) -> Receiver {
             },
             sequence: Sequence { left, event: random.any_length() as u32 },
         },
-        held: Held { count, bits: random.any_length() },
+        held: Held { count, ones_wanted, bits: random.any_length() },
     }
 }
 
@@ -130,6 +141,9 @@ pub fn mixed(random: &mut Random, mut first: Receiver, second: &Receiver) -> Rec
     }
     if seldom() {
         first.held = second.held;
+    }
+    if random.once_in(12) {
+        first.held.ones_wanted = second.held.ones_wanted;
     }
     first
 }

@@ -12,8 +12,8 @@ pub fn i2c_id_before_id(id: u16, i2c: u8) -> FreshAnswer {
 }
 
 pub fn short_frame_of_16_bits_held(receiver: Receiver) -> u8 {
-    let Held { count, bits } = receiver.held;
-    let held = match count == 16 && bits >> 14 == 0 {
+    let Held { count, bits, ones_wanted } = receiver.held;
+    let held = match count == 16 && bits >> 14 == 0 && ones_wanted == 0 {
         true => Held::default(),
         false => receiver.held,
     };
@@ -85,7 +85,7 @@ pub fn long_frame_of_41_bits(receiver: Receiver, trigger: u8, data: u8) -> Clock
 
 pub fn short_frame_of_15_bits(receiver: Receiver, trigger: u8, data: u8) -> ClockAnswer {
     let right = Model.clock(receiver, trigger, data);
-    let Held { count, bits } = right.receiver.held;
+    let Held { count, bits, .. } = right.receiver.held;
     if right.refusal != ACCEPTED || count != 15 || bits >> 13 != 0 {
         return right;
     }
@@ -188,7 +188,8 @@ pub fn held_bits_dropped(receiver: Receiver, number: u64) -> ClockAnswer {
     if right.refusal != ACCEPTED {
         return right;
     }
-    let held = Held::default();
+    let ones_wanted = receiver.held.ones_wanted;
+    let held = Held { ones_wanted, ..Held::default() };
     Model.receive_long(Receiver { held, ..receiver }, number)
 }
 

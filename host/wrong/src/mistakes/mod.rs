@@ -5,6 +5,7 @@ pub mod blocks;
 pub mod clock;
 pub mod frames;
 pub mod lines;
+pub mod quiet;
 pub mod registers;
 pub mod reports;
 

@@ -1,4 +1,4 @@
--- `trace::clocks::run_rest` meets its contract. The invariant: the clocks passed were at rest, and all but the bits held is as at the first of
+-- `trace::clocks::run_rest` meets its contract. The invariant: the clocks passed were at rest, and all but what is held is as at the first of
 -- them, but for the bunch counter. Assumes nothing.
 use mathlib.Core.Path.{sym, _∙_}
 use Prim.Native.Nat.{_-_}
