@@ -6,6 +6,7 @@ mod child;
 mod clocks;
 mod delays;
 mod frames;
+mod idle;
 mod input;
 mod machine;
 mod patterns;
@@ -48,6 +49,7 @@ fn bench() -> io::Result<()> {
     frames::run();
     delays::run();
     blocks::run();
+    idle::run();
     println!("Everywhere the results of both sides were equal.");
     Ok(())
 }
