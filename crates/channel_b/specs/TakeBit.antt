@@ -38,8 +38,8 @@ takeBit held bit =
     (frameOrPart ((held .count + 1) % 2 ^ 8) ((held .bits * 2 + bit) % 2 ^ 64))
 
 -- what a finished frame leaves held, by its stop bit alone. Document 01: "After a finished frame, of every verdict, the receiver waits for a start
--- bit; the next bit may be one." Document 02, Q-1, changes it for a stop bit of 0: "After verdict 7 the receiver must see 41 ones in a row". `WantsExactly` of the crate
--- `receiver` says that this is verdict 7 and no other.
+-- bit; the next bit may be one." Document 02, Q-1, changes it for a stop bit of 0: "After verdict 7 the receiver must see 41 ones in a row".
+-- `WantsExactly` of the crate `receiver` says that this is verdict 7 and no other.
 unfoldable pub heldAfter : ℕ → Held
 heldAfter number = cond (eqb (stopBit number) 0) (wantingOnes 41) nothingHeld
 

@@ -1,4 +1,5 @@
--- Document 01, "Demand 3, over lists of calls", and document 02, Q-1: lists of calls whose answers are computed, from the fresh state of ID 5 and I2C ID 5. Proved in proofs/Examples.antt.
+-- Document 01, "Demand 3, over lists of calls", and document 02, Q-1: lists of calls whose answers are computed, from the fresh state of
+-- ID 5 and I2C ID 5. Proved in proofs/Examples.antt.
 use Prim.Native.Nat.{ℕ, zero, suc}
 use mathlib.Core.Path.{_≡_}
 use mathlib.Core.Bool.{true}

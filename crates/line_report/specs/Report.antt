@@ -1,4 +1,5 @@
--- Document 01, "Stored lines", with document 02, Q-1, for an input that comes in pieces: the report's state, one byte of input, a piece, and the end of input.
+-- Document 01, "Stored lines", with document 02, Q-1, for an input that comes in pieces: the report's state, one byte of input, a
+-- piece, and the end of input.
 -- `Report`, `LinePart` and `Reported` are structs of src/lib.rt.
 use Prim.Native.Nat.{ℕ, suc, _+_, _-_}
 use mathlib.Core.Bool.{cond}

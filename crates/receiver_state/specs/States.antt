@@ -1,4 +1,5 @@
--- Document 01, "Well formed" and "Registers" (fresh), with document 02, Q-1: what holds of such states. Proved in proofs/States.antt, `HeldLaw` and `WaitingLaw` in proofs/HeldBits.antt.
+-- Document 01, "Well formed" and "Registers" (fresh), with document 02, Q-1: what holds of such states. Proved in proofs/States.antt,
+-- `HeldLaw` and `WaitingLaw` in proofs/HeldBits.antt.
 use Prim.Native.Nat.{ℕ, _/_, _-_, _^_, _<_, _≤_}
 use mathlib.Core.Path.{_≡_}
 use mathlib.Core.Logic.{_⊎_, _↔_}

@@ -1,5 +1,5 @@
--- Document 01, "Well formed", with document 02, Q-1: the tests of a state, for refusal 2, and the same as facts, for the proofs. `WellFormedLaw` of States.antt says
--- that they agree.
+-- Document 01, "Well formed", with document 02, Q-1: the tests of a state, for refusal 2, and the same as facts, for the proofs. `WellFormedLaw` of
+-- States.antt says that they agree.
 use Prim.Native.Nat.{ℕ, _*_, _%_, _^_, _<_, _≤_}
 use mathlib.Core.Path.{_≡_}
 use mathlib.Core.Logic.{_⊎_}
