@@ -31,7 +31,7 @@ IN_WORDS = \
 	-e 's/^verdict 4/E = 1: shown to the electronics outside/' \
 	-e 's/^verdict 5/for another address: no effect/' \
 	-e 's/^verdict 6/unknown sub-address: no effect/' \
-	-e 's/^verdict 7/stop bit 0: dropped, a double error/' \
+	-e 's/^verdict 7/stop bit 0: dropped, a double error; then 41 ones/' \
 	-e 's/^verdict 8/cannot be corrected: dropped, a double error/' \
 	-e 's/^verdict 9/fixed bit 0: dropped, a double error/' \
 	-e 's/^end .*/single errors, double errors, events, bunch number/'
