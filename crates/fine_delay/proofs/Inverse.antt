@@ -3,12 +3,12 @@ use Prim.Native.Nat.{ℕ, _<_}
 use mathlib.Core.Path.{_≡_, refl, ap, _∙_}
 use native.Mathlib.Nat.{le-of-suc-le-suc}
 use native.Mathlib.Omega.{arith}
-use borrow.Author.Tests.{eqb-true, ltb-true, le-ltb}
+use borrow.Author.Tests.{eqb-true, lt-ltb, ltb-true, le-ltb}
 use lib.Dec.{eqb, ltb}
 use Rattle.laws.proofs.Below.{below}
 use Rattle.fine_delay.specs.declared.DelayByte.{DelayByte}
 use Rattle.fine_delay.specs.declared.DelaySetting.{DelaySetting}
-use Rattle.fine_delay.specs.Delay.{byteOf, settingOf, settingToByte, byteToSetting}
+use Rattle.fine_delay.specs.Delay.{byteOf, settingOf, hasSetting, settingToByte, byteToSetting}
 use Rattle.fine_delay.specs.Inverse.{SettingBack, ByteBack, NoSettingBeyond}
 
 -- ---- the rules
@@ -21,7 +21,7 @@ byte-of-setting : (byte : ℕ) → byte < 240 → byteOf (settingOf byte) ≡ by
 unfolding byteOf settingOf
 byte-of-setting byte h = eqb-true (byteOf (settingOf byte)) byte (below 240 (λ (i : ℕ). eqb (byteOf (settingOf i)) i) refl byte h)
 
-byte-below : (k : ℕ) → k < 240 → byteOf k < 240
+pub byte-below : (k : ℕ) → k < 240 → byteOf k < 240
 unfolding byteOf
 byte-below k h = ltb-true (byteOf k) 240 (below 240 (λ (i : ℕ). ltb (byteOf i) 240) refl k h)
 
@@ -36,8 +36,8 @@ unfolding settingToByte
 byte-answer k h = rw (le-ltb 239 k (le-of-suc-le-suc h))
 
 pub setting-answer : (byte : ℕ) → byte < 240 → byteToSetting byte ≡ record { refusal = 0; setting = settingOf byte }
-unfolding byteToSetting
-setting-answer byte h = rw (le-ltb 239 byte (le-of-suc-le-suc h))
+unfolding byteToSetting hasSetting
+setting-answer byte h = rw (lt-ltb byte 240 h)
 
 pub setting-back : SettingBack
 setting-back k h = (

@@ -1,7 +1,7 @@
 -- Document 01, "Registers": fine delay settings and their bytes.
 -- `DelayByte` and `DelaySetting` are structs of src/lib.rt.
 use Prim.Native.Nat.{ℕ, _+_, _*_, _/_, _%_}
-use mathlib.Core.Bool.{cond}
+use mathlib.Core.Bool.{Bool, cond}
 use lib.Dec.{ltb}
 use lib.IntN.{pos, _+ℤ_, _-ℤ_}
 use Rattle.laws.specs.Remainder.{_%ℤ_}
@@ -24,6 +24,11 @@ settingOf byte = (15 * (byte % 16) + 16 * (byte / 16) + 30) % 240
 unfoldable pub settingToByte : ℕ → DelayByte
 settingToByte k = cond (ltb 239 k) (record { refusal = 8; byte = 0 }) (record { refusal = 0; byte = byteOf k })
 
--- refusal 9: "byte over 239". "Bytes 240..255 belong to no setting."
+-- "Bytes 240..255 belong to no setting": whether a byte belongs to one. `SettingLaws` of Laws.antt says that these are the bytes of the settings.
+-- Document 02, Q-4, goes by it: registers 0 and 1 of a well-formed state, refusal 17 and verdict 10.
+unfoldable pub hasSetting : ℕ → Bool
+hasSetting byte = ltb byte 240
+
+-- refusal 9: "byte over 239"
 unfoldable pub byteToSetting : ℕ → DelaySetting
-byteToSetting byte = cond (ltb 239 byte) (record { refusal = 9; setting = 0 }) (record { refusal = 0; setting = settingOf byte })
+byteToSetting byte = cond (hasSetting byte) (record { refusal = 0; setting = settingOf byte }) (record { refusal = 9; setting = 0 })

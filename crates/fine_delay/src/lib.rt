@@ -4,7 +4,7 @@
 ghost use mathlib.Core.Path.{_≡_};
 ghost use lib.IntN.{pos};
 ghost use Rattle.laws.specs.Remainder.{_%ℤ_};
-ghost use Rattle.fine_delay.specs.Delay.{byteOf, settingToByte, byteToSetting};
+ghost use Rattle.fine_delay.specs.Delay.{byteOf, hasSetting, settingToByte, byteToSetting};
 
 // The answer to a setting: the number of refusal, and the byte.
 #[repr(C)]
@@ -58,11 +58,18 @@ pub fn delay_byte(setting: u8) -> DelayByte
     }
 }
 
+// Whether a byte belongs to a setting.
+pub fn has_setting(byte: u8) -> bool
+    ensures { λ r. ⌜ r ≡ hasSetting byte ⌝ }
+{
+    byte < 240
+}
+
 // The setting of a byte.
 pub fn delay_setting(byte: u8) -> DelaySetting
     ensures { λ r. ⌜ r ≡ byteToSetting byte ⌝ }
 {
-    if byte > 239 {
+    if !has_setting(byte) {
         return DelaySetting {
             refusal: 9,
             setting: 0,
