@@ -7,6 +7,8 @@ use native.Mathlib.Omega.{arith}
 use borrow.Author.Tests.{eqb-false, ltb-false}
 use lib.Dec.{eqb, ltb}
 use Rattle.laws.proofs.Rules.{picked-by, tests}
+use Rattle.fine_delay.specs.Delay.{hasSetting}
+use Rattle.fine_delay.proofs.Laws.{setting-laws}
 use Rattle.receiver_state.specs.declared.Ids.{Ids}
 use Rattle.receiver_state.specs.declared.FreshAnswer.{FreshAnswer}
 use Rattle.receiver_state.specs.State.{ids, refusedFresh, freshState, freshAnswer}
@@ -18,13 +20,16 @@ use Rattle.receiver_state.proofs.HeldBits.{none-facts}
 pub well-formed-law : WellFormedLaw
 well-formed-law r = (receiver-facts r, receiver-ok r)
 
+0-has-setting : hasSetting 0 ≡ true
+0-has-setting = setting-laws .below-240 0 .1 (omega arith)
+
 pub fresh-facts : (own : Ids) → IdsFacts own → ReceiverFacts (freshState own)
 fresh-facts own f =
     record {
       of-core =
           record {
             of-ids = f;
-            of-settings = record { config-2 = refl; config-3 = refl };
+            of-settings = record { fine-1 = 0-has-setting; fine-2 = 0-has-setting; config-2 = refl; config-3 = refl };
             of-counters = record { bunch-below = omega arith; event-below = omega arith };
             of-sequence = record { few = omega arith; kept-below = omega arith; none-kept = λ z. refl };
             flag = omega arith;

@@ -48,11 +48,11 @@ settings-facts : (s : Settings) → settingsOk s ≡ true → SettingsFacts s
 unfolding settingsOk
 settings-facts s e =
     let p = every→passed _ e in
-    record { config-2 = search (eqb-true, p .0); config-3 = search (eqb-true, p .1 .0) }
+    record { fine-1 = p .0; fine-2 = p .1 .0; config-2 = search (eqb-true, p .1 .1 .0); config-3 = search (eqb-true, p .1 .1 .1 .0) }
 
 settings-ok : (s : Settings) → SettingsFacts s → settingsOk s ≡ true
 unfolding settingsOk
-settings-ok s f = passed→every _ (eq-eqb _ _ (f .config-2), (eq-eqb _ _ (f .config-3), tt))
+settings-ok s f = passed→every _ (f .fine-1, (f .fine-2, (eq-eqb _ _ (f .config-2), (eq-eqb _ _ (f .config-3), tt))))
 
 counters-facts : (k : Counters) → countersOk k ≡ true → CountersFacts k
 unfolding countersOk

@@ -1,12 +1,13 @@
--- Document 01, "Well formed", with document 02, Q-1: the tests of a state, for refusal 2, and the same as facts, for the proofs. `WellFormedLaw` of
+-- Document 01, "Well formed", with document 02, Q-1 and Q-4: the tests of a state, for refusal 2, and the same as facts, for the proofs. `WellFormedLaw` of
 -- States.antt says that they agree.
 use Prim.Native.Nat.{ℕ, _*_, _%_, _^_, _<_, _≤_}
 use mathlib.Core.Path.{_≡_}
 use mathlib.Core.Logic.{_⊎_}
-use mathlib.Core.Bool.{Bool, _||_}
+use mathlib.Core.Bool.{Bool, true, _||_}
 use mathlib.Core.List.{[], _∷_}
 use lib.Dec.{eqb, ltb, leb}
 use Rattle.laws.specs.Tests.{every}
+use Rattle.fine_delay.specs.Delay.{hasSetting}
 use Rattle.receiver_state.specs.declared.Ids.{Ids}
 use Rattle.receiver_state.specs.declared.Settings.{Settings}
 use Rattle.receiver_state.specs.declared.Counters.{Counters}
@@ -26,8 +27,15 @@ idsOk own = every (leb 1 (own .id) ∷ leb (own .id) 16383 ∷ leb (own .i2c) 63
 abbrev pub configOk : ℕ → ℕ → Bool
 configOk fresh byte = eqb (byte % 2 ^ 7) (fresh % 2 ^ 7)
 
+-- document 02, Q-4, of bytes 240 to 255: "a state with such a byte in register 0 or 1 is 2"
 unfoldable pub settingsOk : Settings → Bool
-settingsOk s = every (configOk (freshSettings .config2) (s .config2) ∷ configOk (freshSettings .config3) (s .config3) ∷ [])
+settingsOk s =
+    every
+    (hasSetting (s .fine1)
+    ∷ hasSetting (s .fine2)
+    ∷ configOk (freshSettings .config2) (s .config2)
+    ∷ configOk (freshSettings .config3) (s .config3)
+    ∷ [])
 
 -- "bunch under 4096, event numbers under 2^24"
 unfoldable pub countersOk : Counters → Bool
@@ -72,6 +80,8 @@ pub record IdsFacts (own : Ids) : Type 0 where
   pub i2c-below : own .i2c ≤ 63
 
 pub record SettingsFacts (s : Settings) : Type 0 where
+  pub fine-1 : hasSetting (s .fine1) ≡ true
+  pub fine-2 : hasSetting (s .fine2) ≡ true
   pub config-2 : s .config2 % 2 ^ 7 ≡ freshSettings .config2 % 2 ^ 7
   pub config-3 : s .config3 % 2 ^ 7 ≡ freshSettings .config3 % 2 ^ 7
 

@@ -1,5 +1,4 @@
-// Document 01, "Well formed", with document 02, Q-1: the tests of each part of a state, in the paper's
-// order.
+// Document 01, "Well formed", with document 02, Q-1 and Q-4: the tests of each part of a state.
 ghost use mathlib.Core.Path.{_≡_};
 ghost use Prim.Native.Nat.{_<_, _^_};
 ghost use Rattle.receiver_state.specs.WellFormed.{idsOk, settingsOk, countersOk, sequenceOk, coreOk, bitsOk, wantedOk, heldOk};
@@ -9,6 +8,7 @@ use crate::Held;
 use crate::Ids;
 use crate::Sequence;
 use crate::Settings;
+use fine_delay::has_setting;
 
 fn ids_ok(ids: Ids) -> bool
     ensures { λ r. ⌜ r ≡ idsOk ids ⌝ }
@@ -22,10 +22,17 @@ fn ids_ok(ids: Ids) -> bool
     ids.i2c <= 63
 }
 
-// Bits 6 to 0 of both Config bytes are those of the fresh ones.
+// Both fine delays belong to a setting, and bits 6 to 0 of both Config bytes are those of the fresh
+// ones.
 fn settings_ok(settings: Settings) -> bool
     ensures { λ r. ⌜ r ≡ settingsOk settings ⌝ }
 {
+    if !has_setting(settings.fine1) {
+        return false;
+    }
+    if !has_setting(settings.fine2) {
+        return false;
+    }
     settings.config2 % 0x80 == 0x05 && settings.config3 % 0x80 == 0x27
 }
 

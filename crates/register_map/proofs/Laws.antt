@@ -1,20 +1,22 @@
 -- What holds of the register map. Assumes nothing.
 use mathlib.Core.Path.{_≡_, refl}
 use mathlib.Core.Logic.{_⊎_, inl, inr}
-use mathlib.Core.Bool.{Bool, true, false, cond, not, _&&_}
+use mathlib.Core.Bool.{Bool, true, false, cond, not, _&&_, false≢true}
 use mathlib.Core.List.{List, [], _∷_}
-use Prim.Native.Nat.{ℕ, _+_, _*_, _/_, _%_, _^_, _<_, _≤_}
+use Prim.Native.Nat.{ℕ, zero, suc, _+_, _*_, _/_, _%_, _^_, _<_, _≤_}
 use native.Mathlib.Omega.{arith}
 use native.Mathlib.Nat.{mod-lt}
-use borrow.Author.Tests.{ne-eqb, not-true, ltb-true}
+use borrow.Author.Tests.{ne-eqb, not-true, ltb-true, le-ltb}
 use lib.Dec.{ltb, lit<}
 use Rattle.laws.specs.OneOf.{oneOf}
 use Rattle.laws.proofs.Below.{below}
 use Rattle.laws.proofs.Tests.{both}
+use Rattle.fine_delay.specs.Delay.{hasSetting}
+use Rattle.fine_delay.proofs.Laws.{setting-laws}
 use Rattle.receiver_state.specs.declared.Core.{Core}
-use Rattle.register_map.specs.Map.{mapNumbers, inMap, registerByte}
+use Rattle.register_map.specs.Map.{mapNumbers, inMap, registerByte, withoutSetting}
 use Rattle.register_map.specs.Change.{clearBunch, clearEvent}
-use Rattle.register_map.specs.Laws.{gaps, MapLaws, ByteLaws, ClearLaws}
+use Rattle.register_map.specs.Laws.{gaps, MapLaws, ByteLaws, NoSetting, WithoutSettingLaw, ClearLaws}
 
 -- ---- the numbers of the map
 
@@ -41,6 +43,22 @@ map-laws =
       below-29 = λ number h. agrees (inMap number) (oneOf gaps number) (below 29 (λ k. cond (oneOf gaps k) (not (inMap k)) (inMap k)) refl number h);
       from-29 = λ number h. none-of mapNumbers number 29 h refl;
     }
+
+-- ---- bytes without a setting
+
+no-setting : (number byte : ℕ) → withoutSetting number byte ≡ true → NoSetting number byte
+unfolding withoutSetting
+no-setting zero byte e = (inl refl, setting-laws .from-240 byte .0 (not-true (hasSetting byte) e))
+no-setting (suc zero) byte e = (inr refl, setting-laws .from-240 byte .0 (not-true (hasSetting byte) e))
+no-setting (suc (suc number)) byte e = absurd (false≢true (rw (le-ltb (suc (suc number)) 2 (omega arith)) at e))
+
+is-without : (number byte : ℕ) → NoSetting number byte → withoutSetting number byte ≡ true
+unfolding withoutSetting
+is-without number byte (inl n, h) = rw (n, setting-laws .from-240 byte .1 h) refl
+is-without number byte (inr n, h) = rw (n, setting-laws .from-240 byte .1 h) refl
+
+pub without-setting-law : WithoutSettingLaw
+without-setting-law number byte = (no-setting number byte, is-without number byte)
 
 -- ---- what each register holds
 

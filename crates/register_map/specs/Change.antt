@@ -8,7 +8,7 @@ use Rattle.receiver_state.specs.State.{errors, counters, withSettings, withErro
 
 -- ---- a byte stored
 
--- registers 0 to 3; any other number changes nothing
+-- registers 0 to 3; any other number changes nothing. That a byte without a setting never comes here is for verdict 10 and refusal 17.
 unfoldable pub stored : ℕ → ℕ → Settings → Settings
 stored number byte now =
     record {

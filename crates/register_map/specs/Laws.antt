@@ -1,13 +1,13 @@
--- Document 01, "Registers": what holds of the map and of every change. Proved in proofs/Laws.antt, proofs/Stored.antt and proofs/Keep.antt.
+-- Document 01, "Registers", with document 02, Q-4: what holds of the map and of every change. Proved in proofs/Laws.antt, proofs/Stored.antt and proofs/Keep.antt.
 use Prim.Native.Nat.{ℕ, _+_, _*_, _^_, _<_, _≤_}
 use mathlib.Core.Path.{_≡_}
-use mathlib.Core.Logic.{_≢_, _⊎_}
-use mathlib.Core.Bool.{false, not}
+use mathlib.Core.Logic.{_≢_, _⊎_, _↔_}
+use mathlib.Core.Bool.{true, false, not}
 use mathlib.Core.List.{List, [], _∷_}
 use Rattle.laws.specs.OneOf.{oneOf}
 use Rattle.receiver_state.specs.declared.Core.{Core}
 use Rattle.receiver_state.specs.WellFormed.{CoreFacts}
-use Rattle.register_map.specs.Map.{inMap, registerByte, configWrong}
+use Rattle.register_map.specs.Map.{inMap, registerByte, withoutSetting, configWrong}
 use Rattle.register_map.specs.Change.{storeByte, clearBunch, clearEvent, afterWrite}
 
 -- ---- the numbers of the map
@@ -44,6 +44,15 @@ pub record ByteLaws : Type 0 where
   -- "ID high 6 bits"
   pub id-high-6 : (core : Core) → CoreFacts core → registerByte core 17 < 2 ^ 6
 
+-- ---- bytes without a setting
+
+-- document 02, Q-4: "240 to 255 to registers 0 or 1"
+abbrev pub NoSetting : ℕ → ℕ → Type 0
+NoSetting number byte = ((number ≡ 0) ⊎ (number ≡ 1)) × (240 ≤ byte)
+
+abbrev pub WithoutSettingLaw : Type 0
+WithoutSettingLaw = (number byte : ℕ) → (withoutSetting number byte ≡ true) ↔ NoSetting number byte
+
 -- ---- what a change leaves
 
 -- a byte in register 0 to 3, read again; and of all registers, only that one changes
@@ -58,9 +67,10 @@ pub record ClearLaws : Type 0 where
   pub event-zero : (core : Core) (number : ℕ) → (number ≡ 26) ⊎ ((number ≡ 27) ⊎ (number ≡ 28)) → registerByte (clearEvent core) number ≡ 0
   pub event-alone : (core : Core) (number : ℕ) → number ≢ 26 → number ≢ 27 → number ≢ 28 → registerByte (clearEvent core) number ≡ registerByte core number
 
--- the core stays well formed; by a register write, if refusal 7 lets the byte through
+-- the core stays well formed; by a byte stored, unless it is one without a setting; by a register write, if refusals 17 and 7 let the byte through
 pub record KeepLaws : Type 0 where
-  pub store-keeps : (number byte : ℕ) (core : Core) → CoreFacts core → CoreFacts (storeByte number byte core)
+  pub store-keeps : (number byte : ℕ) (core : Core) → withoutSetting number byte ≡ false → CoreFacts core → CoreFacts (storeByte number byte core)
   pub bunch-keeps : (core : Core) → CoreFacts core → CoreFacts (clearBunch core)
   pub event-keeps : (core : Core) → CoreFacts core → CoreFacts (clearEvent core)
-  pub write-keeps : (core : Core) (number value : ℕ) → configWrong number value ≡ false → CoreFacts core → CoreFacts (afterWrite core number value)
+  pub write-keeps : (core : Core) (number value : ℕ) → withoutSetting number value ≡ false → configWrong number value ≡ false → CoreFacts core
+      → CoreFacts (afterWrite core number value)

@@ -1,9 +1,10 @@
--- Document 01, "Registers": the table's columns "number" and "holds", and which writes its column "write" refuses.
+-- Document 01, "Registers", with document 02, Q-4: the table's columns "number" and "holds", and which writes its column "write" refuses.
 use Prim.Native.Nat.{ℕ, _*_, _/_, _%_, _^_}
 use mathlib.Core.Bool.{Bool, false, cond, not}
 use mathlib.Core.List.{List, [], _∷_}
-use lib.Dec.{eqb}
+use lib.Dec.{eqb, ltb}
 use Rattle.laws.specs.OneOf.{oneOf}
+use Rattle.fine_delay.specs.Delay.{hasSetting}
 use Rattle.receiver_state.specs.declared.Core.{Core}
 use Rattle.receiver_state.specs.State.{freshSettings, statusByte}
 use Rattle.receiver_state.specs.WellFormed.{configOk}
@@ -66,6 +67,10 @@ registerByte core number =
 -- "refused"
 unfoldable pub readOnly : ℕ → Bool
 readOnly number = oneOf (16 ∷ 17 ∷ 18 ∷ 22 ∷ []) number
+
+-- document 02, Q-4: "240 to 255 to registers 0 or 1". A write is refused by it (17), and an internal frame gets verdict 10.
+unfoldable pub withoutSetting : ℕ → ℕ → Bool
+withoutSetting number byte = cond (ltb number 2) (not (hasSetting byte)) false
 
 -- "only bit 7 may change"; refusal 7: "write to 20 or 21 that differs from the fresh byte in bits 6..0"
 unfoldable pub configWrong : ℕ → ℕ → Bool

@@ -3,8 +3,9 @@
 //
 // The core goes by value, like the state that it belongs to.
 ghost use mathlib.Core.Path.{_≡_};
-ghost use Rattle.register_map.specs.Map.{inMap, registerByte, readOnly, configWrong};
+ghost use Rattle.register_map.specs.Map.{inMap, registerByte, readOnly, withoutSetting, configWrong};
 ghost use Rattle.register_map.specs.Change.{storeByte, setConfig2, setConfig3, clearSingle, clearDouble, clearBunch, clearEvent, afterWrite};
+use fine_delay::has_setting;
 use receiver_state::Core;
 
 // Whether the number is in the map.
@@ -46,6 +47,16 @@ pub fn read_only(number: u8) -> bool
         22 => true,
         _ => false,
     }
+}
+
+// A byte for register 0 or 1 that belongs to no fine delay setting.
+pub fn without_setting(number: u8, byte: u8) -> bool
+    ensures { λ r. ⌜ r ≡ withoutSetting number byte ⌝ }
+{
+    if number < 2 {
+        return !has_setting(byte);
+    }
+    false
 }
 
 // A Config byte that differs from the fresh one, 0x85 or 0xA7, in bits 6 to 0.

@@ -1,6 +1,6 @@
 -- What holds of every register read and every register write. Assumes nothing.
 use mathlib.Core.Path.{_≡_, refl, sym, ap, _∙_}
-use mathlib.Core.Logic.{_≢_, inl, inr, ⊎-elim}
+use mathlib.Core.Logic.{_≢_, _⊎_, inl, inr, ⊎-elim}
 use mathlib.Core.Bool.{Bool, true, false, cond, false≢true}
 use Prim.Native.Nat.{ℕ, _%_, _^_, _<_}
 use borrow.Author.Tests.{ne-eqb}
@@ -12,8 +12,10 @@ use Rattle.receiver_state.specs.declared.Receiver.{Receiver}
 use Rattle.receiver_state.specs.State.{errors, counters, receiver, withSettings, withErrors, withCounters}
 use Rattle.receiver_state.specs.WellFormed.{wellFormed}
 use Rattle.receiver_state.proofs.WellFormed.{receiver-facts, receiver-ok}
-use Rattle.register_map.specs.Map.{inMap, registerByte, readOnly, configWrong}
+use Rattle.register_map.specs.Map.{inMap, registerByte, readOnly, withoutSetting, configWrong}
 use Rattle.register_map.specs.Change.{stored, afterWrite}
+use Rattle.register_map.specs.Laws.{NoSetting}
+use Rattle.register_map.proofs.Laws.{without-setting-law}
 use Rattle.register_map.proofs.Keep.{write-keeps, write-changes}
 use Rattle.register_map.proofs.Stored.{below-4, store-laws}
 use Rattle.registers.specs.declared.WriteAnswer.{WriteAnswer}
@@ -36,23 +38,25 @@ read-laws =
 abbrev Well : WriteAnswer → Type 0
 Well done = wellFormed (done .receiver) ≡ true
 
--- a write that is not refused by 7 leaves good Config bytes
-accepted-config : (number value : ℕ) → eqb (writeRefusal number value) 0 ≡ true → configWrong number value ≡ false
+-- a write that is not refused has a byte that may stand in the register
+accepted-byte : (number value : ℕ) → eqb (writeRefusal number value) 0 ≡ true → (withoutSetting number value ≡ false) × (configWrong number value ≡ false)
 unfolding writeRefusal
-accepted-config number value e = last-test (inMap number) (readOnly number) (configWrong number value) e
+accepted-byte number value e = last-tests (inMap number) (readOnly number) (withoutSetting number value) (configWrong number value) e
   where
-    last-test : (a b c : Bool) → eqb (cond a (cond b 6 (cond c 7 0)) 5) 0 ≡ true → c ≡ false
-    last-test true true c e = absurd (false≢true e)
-    last-test true false true e = absurd (false≢true e)
-    last-test true false false e = refl
-    last-test false b c e = absurd (false≢true e)
+    last-tests : (a b c d : Bool) → eqb (cond a (cond b 6 (cond c 17 (cond d 7 0))) 5) 0 ≡ true → (c ≡ false) × (d ≡ false)
+    last-tests true true c d e = absurd (false≢true e)
+    last-tests true false true d e = absurd (false≢true e)
+    last-tests true false false true e = absurd (false≢true e)
+    last-tests true false false false e = (refl, refl)
+    last-tests false b c d e = absurd (false≢true e)
 
 stays : (r : Receiver) (number value : ℕ) → wellFormed r ≡ true → wellFormed (writeAnswer r number value .receiver) ≡ true
 unfolding writeAnswer
 stays r number value e =
     picked-by Well (wellFormed r)
     (λ t. picked-by Well (eqb (writeRefusal number value) 0)
-    (λ a. receiver-ok _ (record { of-core = write-keeps (r .core) number value (accepted-config number value a) (receiver-facts r e .of-core); of-held = receiver-facts r e .of-held }))
+    (λ a. let may = accepted-byte number value a in
+    receiver-ok _ (record { of-core = write-keeps (r .core) number value (may .0) (may .1) (receiver-facts r e .of-core); of-held = receiver-facts r e .of-held }))
     (λ a. e))
     (λ t. e)
 
@@ -83,15 +87,34 @@ refused-6 r number value e (inr (inl n)) = rw (e, n) refl
 refused-6 r number value e (inr (inr (inl n))) = rw (e, n) refl
 refused-6 r number value e (inr (inr (inr n))) = rw (e, n) refl
 
+refused-17 : (r : Receiver) (number value : ℕ) → wellFormed r ≡ true → NoSetting number value → writeAnswer r number value ≡ refusedWrite 17 r
+unfolding writeAnswer writeRefusal inMap readOnly oneOf
+refused-17 r number value e h = at-register (h .0)
+  where
+    w : withoutSetting number value ≡ true
+    w = without-setting-law number value .1 h
+
+    at-register : (number ≡ 0) ⊎ (number ≡ 1) → writeAnswer r number value ≡ refusedWrite 17 r
+    at-register (inl n) = rw (e, w, n) refl
+    at-register (inr n) = rw (e, w, n) refl
+
+byte-stored : (r : Receiver) (number value : ℕ) → wellFormed r ≡ true → number < 4 → (NoSetting number value → ⊥)
+    → writeAnswer r number value ≡ writtenTo r (withSettings (stored number value (r .core .settings)) (r .core))
+unfolding writeAnswer writeRefusal afterWrite inMap readOnly configWrong oneOf stored
+byte-stored r number value e h n =
+    below-4 (λ (k : ℕ). withoutSetting k value ≡ false → writeAnswer r k value ≡ writtenTo r (withSettings (stored k value (r .core .settings)) (r .core)))
+    (λ w. rw (e, w) refl) (λ w. rw (e, w) refl) (λ w. rw (e, w) refl) (λ w. rw (e, w) refl) number h
+    (by-test (withoutSetting number value) (λ w. absurd (n (without-setting-law number value .0 w))) (λ w. w))
+
 event-cleared : (r : Receiver) (number value : ℕ) → wellFormed r ≡ true → EventByte number
     → writeAnswer r number value ≡ writtenTo r (withCounters (counters (r .core .counters .bunch) 0) (r .core))
-unfolding writeAnswer writeRefusal afterWrite inMap readOnly configWrong oneOf
+unfolding writeAnswer writeRefusal afterWrite inMap readOnly withoutSetting configWrong oneOf
 event-cleared r number value e (inl n) = rw (e, n) refl
 event-cleared r number value e (inr (inl n)) = rw (e, n) refl
 event-cleared r number value e (inr (inr n)) = rw (e, n) refl
 
 pub write-laws : WriteLaws
-unfolding writeAnswer writeRefusal afterWrite inMap readOnly configWrong oneOf stored
+unfolding writeAnswer writeRefusal afterWrite inMap readOnly withoutSetting configWrong oneOf stored
 write-laws =
     record {
       refused-by-2 = λ r number value e. rw e refl;
@@ -99,7 +122,8 @@ write-laws =
       refused-by-6 = refused-6;
       refused-by-7 = λ r number value e.
           ⊎-elim (λ h. rw (e, h .0, ne-eqb (value % 2 ^ 7) 5 (h .1)) refl) (λ h. rw (e, h .0, ne-eqb (value % 2 ^ 7) 39 (h .1)) refl);
-      byte-stored = λ r number value e h. below-4 (λ (n : ℕ). writeAnswer r n value ≡ writtenTo r (withSettings (stored n value (r .core .settings)) (r .core))) (rw e refl) (rw e refl) (rw e refl) (rw e refl) number h;
+      refused-by-17 = refused-17;
+      byte-stored = byte-stored;
       single-cleared = λ r number value e. ⊎-elim (λ n. rw (e, n) refl) (λ n. rw (e, n) refl);
       double-cleared = λ r value e. rw e refl;
       upset-accepted = λ r value e. rw e refl;
@@ -124,11 +148,12 @@ in-map-4 : (number : ℕ) → number < 4 → inMap number ≡ true
 unfolding inMap oneOf
 in-map-4 number h = below-4 (λ (n : ℕ). inMap n ≡ true) refl refl refl refl number h
 
-others-stay : (r : Receiver) (number value other : ℕ) → wellFormed r ≡ true → number < 4 → other ≢ number → readAfter r number value other ≡ readAnswer r other
-others-stay r number value other e h d =
+others-stay : (r : Receiver) (number value other : ℕ) → wellFormed r ≡ true → number < 4 → (NoSetting number value → ⊥) → other ≢ number
+    → readAfter r number value other ≡ readAnswer r other
+others-stay r number value other e h n d =
     by-test (inMap other)
     (λ i.
-    read-after r number value other _ (registerByte (r .core) other) e (write-laws .byte-stored r number value e h) i (store-laws .others-stay (r .core) number value other d)
+    read-after r number value other _ (registerByte (r .core) other) e (byte-stored r number value e h n) i (store-laws .others-stay (r .core) number value other d)
     ∙ sym (read-laws .accepted r other e i))
     (λ i.
     read-laws .refused-by-5 (writeAnswer r number value .receiver) other (stays r number value e) i ∙ sym (read-laws .refused-by-5 r other e i))
@@ -153,8 +178,8 @@ pub read-back : ReadBack
 unfolding registerByte inMap oneOf
 read-back =
     record {
-      stored-byte = λ r number value e h.
-          read-after r number value number _ value e (write-laws .byte-stored r number value e h) (in-map-4 number h) (store-laws .stored-back (r .core) number value h);
+      stored-byte = λ r number value e h n.
+          read-after r number value number _ value e (byte-stored r number value e h n) (in-map-4 number h) (store-laws .stored-back (r .core) number value h);
       others-stay = others-stay;
       config-2 = λ r value e h. read-after r 20 value 20 _ value e (write-laws .config-2-stored r value e h) refl refl;
       config-3 = λ r value e h. read-after r 21 value 21 _ value e (write-laws .config-3-stored r value e h) refl refl;

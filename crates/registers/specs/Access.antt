@@ -1,4 +1,4 @@
--- Document 01, "Registers" and "Numbers of refusal": one register read, and one register write.
+-- Document 01, "Registers" and "Numbers of refusal", with document 02, Q-4: one register read, and one register write.
 use Prim.Native.Nat.{ℕ}
 use mathlib.Core.Bool.{cond}
 use lib.Dec.{eqb}
@@ -6,7 +6,7 @@ use Rattle.receiver_state.specs.declared.Core.{Core}
 use Rattle.receiver_state.specs.declared.Receiver.{Receiver}
 use Rattle.receiver_state.specs.State.{receiver}
 use Rattle.receiver_state.specs.WellFormed.{wellFormed}
-use Rattle.register_map.specs.Map.{inMap, registerByte, readOnly, configWrong}
+use Rattle.register_map.specs.Map.{inMap, registerByte, readOnly, withoutSetting, configWrong}
 use Rattle.register_map.specs.Change.{afterWrite}
 use Rattle.registers.specs.declared.ReadAnswer.{ReadAnswer}
 use Rattle.registers.specs.declared.WriteAnswer.{WriteAnswer}
@@ -37,13 +37,14 @@ afterRead core number = core
 
 -- ---- write
 
--- of a state that is well formed: 5 "after 2"; 6, "write to 16, 17, 18 or 22", "after 5"; 7 "after 6"
+-- of a state that is well formed: 5 "after 2"; 6, "write to 16, 17, 18 or 22", "after 5"; 17, "after 6, never together with 7"; 7 "after 6"
 unfoldable pub writeRefusal : ℕ → ℕ → ℕ
 writeRefusal number value =
     cond (inMap number)
     (cond (readOnly number) 6
+    (cond (withoutSetting number value) 17
     (cond (configWrong number value) 7
-    0))
+    0)))
     5
 
 -- what is held of channel B stays

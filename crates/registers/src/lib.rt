@@ -1,5 +1,5 @@
-// Document 01, "Registers": register reads and register writes between clocks: checks and refusals.
-// What a register holds, and what a write does, is in `register_map`.
+// Document 01, "Registers", with document 02, Q-4: register reads and register writes between clocks:
+// checks and refusals. What a register holds, and what a write does, is in `register_map`.
 //
 // The state goes by value, in and out: see `receiver_state`.
 ghost use mathlib.Core.Path.{_≡_};
@@ -10,6 +10,7 @@ use register_map::config_wrong;
 use register_map::in_map;
 use register_map::read_only;
 use register_map::register_byte;
+use register_map::without_setting;
 use register_map::write_byte;
 
 #[repr(C)]
@@ -41,6 +42,9 @@ fn write_refusal(number: u8, value: u8) -> u8
     }
     if read_only(number) {
         return 6;
+    }
+    if without_setting(number, value) {
+        return 17;
     }
     if config_wrong(number, value) {
         return 7;

@@ -21,7 +21,7 @@ use Rattle.receiver_state.specs.declared.Clocked.{Clocked}
 use Rattle.receiver_state.specs.State.{counters, freshCore}
 use Rattle.register_map.specs.Change.{storeByte}
 use Rattle.verdicts.specs.declared.LongRow.{LongRow}
-use Rattle.verdicts.specs.declared.LongRow.the-variants.{Foreign, Outside, Store, Reset, Other}
+use Rattle.verdicts.specs.declared.LongRow.the-variants.{Foreign, Outside, WithoutSetting, Store, Reset, Other}
 use Rattle.verdicts.specs.declared.Row.{Row}
 use Rattle.verdicts.specs.Table.{dropped, doubleUp, clearedBy, rowVerdict, rowEffect, row}
 use Rattle.verdicts.specs.Finished.{countErrors, shown, finished}
@@ -69,6 +69,7 @@ long-goes : (flag word : ℕ) (idle : Clocked) (fields : Fields) (chosen : LongR
 unfolding countErrors
 long-goes flag word idle fields Foreign = kept-goes (rowVerdict Foreign) (goodAnswer Long flag word) (countErrors (goodAnswer Long flag word) (idle .core)) idle (λ p. omega arith) refl
 long-goes flag word idle fields Outside = kept-goes (rowVerdict Outside) (goodAnswer Long flag word) (countErrors (goodAnswer Long flag word) (idle .core)) idle (λ p. omega arith) refl
+long-goes flag word idle fields WithoutSetting = kept-goes (rowVerdict WithoutSetting) (goodAnswer Long flag word) (countErrors (goodAnswer Long flag word) (idle .core)) idle (λ p. omega arith) refl
 long-goes flag word idle fields Store = kept-goes (rowVerdict Store) (goodAnswer Long flag word) (storeByte (fields .sub) (fields .«data») (countErrors (goodAnswer Long flag word) (idle .core))) idle (λ p. omega arith) refl
 long-goes flag word idle fields Reset = reset-goes (goodAnswer Long flag word) (freshCore (idle .core .ids)) idle
 long-goes flag word idle fields Other = kept-goes (rowVerdict Other) (goodAnswer Long flag word) (countErrors (goodAnswer Long flag word) (idle .core)) idle (λ p. omega arith) refl

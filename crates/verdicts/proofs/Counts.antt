@@ -20,7 +20,7 @@ use Rattle.receiver_state.specs.declared.Clocked.{Clocked}
 use Rattle.receiver_state.specs.State.{withCounters, freshCore}
 use Rattle.register_map.specs.Change.{storeByte}
 use Rattle.verdicts.specs.declared.LongRow.{LongRow}
-use Rattle.verdicts.specs.declared.LongRow.the-variants.{Foreign, Outside, Store, Reset, Other}
+use Rattle.verdicts.specs.declared.LongRow.the-variants.{Foreign, Outside, WithoutSetting, Store, Reset, Other}
 use Rattle.verdicts.specs.declared.Row.{Row}
 use Rattle.verdicts.specs.Table.{dropped, upTo, doubleUp, rowVerdict, rowEffect, row}
 use Rattle.verdicts.specs.Finished.{countErrors, shown, finished}
@@ -92,6 +92,7 @@ long-moves : (flag word : ℕ) (idle : Clocked) (fields : Fields) (chosen : Long
 unfolding countErrors dropped oneOf
 long-moves flag word idle fields Foreign = other-moves (rowVerdict Foreign) flag word Long (countErrors (goodAnswer Long flag word) (idle .core)) idle refl (λ e. omega arith) (λ e. omega arith) refl
 long-moves flag word idle fields Outside = other-moves (rowVerdict Outside) flag word Long (countErrors (goodAnswer Long flag word) (idle .core)) idle refl (λ e. omega arith) (λ e. omega arith) refl
+long-moves flag word idle fields WithoutSetting = other-moves (rowVerdict WithoutSetting) flag word Long (countErrors (goodAnswer Long flag word) (idle .core)) idle refl (λ e. omega arith) (λ e. omega arith) refl
 long-moves flag word idle fields Store = other-moves (rowVerdict Store) flag word Long (storeByte (fields .sub) (fields .«data») (countErrors (goodAnswer Long flag word) (idle .core))) idle refl (λ e. omega arith) (λ e. omega arith) refl
 long-moves flag word idle fields Reset = reset-moves (goodAnswer Long flag word) (idle .core .ids) idle
 long-moves flag word idle fields Other = other-moves (rowVerdict Other) flag word Long (countErrors (goodAnswer Long flag word) (idle .core)) idle refl (λ e. omega arith) (λ e. omega arith) refl

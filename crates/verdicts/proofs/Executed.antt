@@ -23,11 +23,11 @@ use Rattle.frame.specs.Frames.{InRange, flipProtected, fieldsAnswer, FrameFacts
 use Rattle.receiver_state.specs.declared.Core.{Core}
 use Rattle.receiver_state.specs.declared.Clocked.{Clocked}
 use Rattle.verdicts.specs.declared.LongRow.{LongRow}
-use Rattle.verdicts.specs.declared.LongRow.the-variants.{Foreign, Outside, Store, Reset, Other}
+use Rattle.verdicts.specs.declared.LongRow.the-variants.{Foreign, Outside, WithoutSetting, Store, Reset, Other}
 use Rattle.verdicts.specs.Table.{executed, longRow, rowVerdict, goodRow, tableRow}
 use Rattle.verdicts.specs.Finished.{countErrors, finished}
 use Rattle.verdicts.specs.FrameLaws.{ExecutedRow, ExecutedFrame}
-use Rattle.verdicts.proofs.Rows.{Why, why}
+use Rattle.verdicts.proofs.Rows.{without-data, without-low, with-data, Why, why}
 use Rattle.verdicts.proofs.Verdicts.{finished-answer}
 
 -- ---- the rows 1 to 4
@@ -36,11 +36,15 @@ long-executed : (fields : Fields) (id : ℕ) (chosen : LongRow) → Why chosen f
 unfolding executed oneOf
 long-executed fields id Foreign w = (λ e. absurd (false≢true e), λ p. absurd (w (p .0)))
 long-executed fields id Outside w = (λ e. (w .0, inl (w .1)), λ p. refl)
-long-executed fields id Store w = (λ e. (w .0, inr (inl (w .2))), λ p. refl)
+long-executed fields id WithoutSetting w = (
+  λ e. absurd (false≢true e),
+  λ p. absurd (let d = without-data fields (w .2) in ⊎-elim (w .1) (⊎-elim (λ s. s .1 d) (λ s. omega (arith, without-low fields d, s))) (p .1)),
+)
+long-executed fields id Store w = (λ e. (w .0, inr (inl (w .3, with-data fields (w .2)))), λ p. refl)
 long-executed fields id Reset w = (λ e. (w .0, inr (inr (w .3))), λ p. refl)
 long-executed fields id Other w = (
   λ e. absurd (false≢true e),
-  λ p. absurd (⊎-elim (w .1) (⊎-elim (λ s. omega (arith, w .2, s)) (w .3)) (p .1)),
+  λ p. absurd (⊎-elim (w .1) (⊎-elim (λ s. omega (arith, w .2, s .0)) (w .3)) (p .1)),
 )
 
 good-executed : (kind : Kind) (fields : Fields) (core : Core) → (executed (goodRow kind fields core .verdict) ≡ true) ↔ ExecutedRow kind fields (core .ids .id)

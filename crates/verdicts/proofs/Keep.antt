@@ -14,10 +14,11 @@ use Rattle.receiver_state.proofs.Changes.{errors-changed}
 use Rattle.receiver_state.proofs.States.{fresh-facts}
 use Rattle.register_map.proofs.Keep.{store-keeps, bunch-keeps, event-keeps}
 use Rattle.verdicts.specs.declared.LongRow.{LongRow}
-use Rattle.verdicts.specs.declared.LongRow.the-variants.{Foreign, Outside, Store, Reset, Other}
+use Rattle.verdicts.specs.declared.LongRow.the-variants.{Foreign, Outside, WithoutSetting, Store, Reset, Other}
 use Rattle.verdicts.specs.declared.Row.{Row}
 use Rattle.verdicts.specs.Table.{doubleUp, clearedBy, longRow, rowEffect, goodRow, tableRow}
 use Rattle.verdicts.specs.Finished.{countErrors, finished}
+use Rattle.verdicts.proofs.Rows.{Why, why}
 
 counted-facts : (frame : Answer) (core : Core) → CoreFacts core → CoreFacts (countErrors frame core)
 unfolding countErrors
@@ -33,19 +34,21 @@ cleared-facts byte core f =
     let first = picked CoreFacts (eqb (byte % 2) 1) (bunch-keeps core f) f in
     picked CoreFacts (eqb (byte / 2 % 2) 1) (event-keeps _ first) first
 
-effect-facts : (chosen : LongRow) (fields : Fields) (core : Core) → CoreFacts core → CoreFacts (rowEffect chosen fields core)
-effect-facts Foreign fields core f = f
-effect-facts Outside fields core f = f
-effect-facts Store fields core f = store-keeps (fields .sub) (fields .«data») core f
-effect-facts Reset fields core f = fresh-facts (core .ids) (f .of-ids) .of-core
-effect-facts Other fields core f = f
+-- what is stored belongs to a setting: row 10 is tested before
+effect-facts : (chosen : LongRow) (fields : Fields) (id : ℕ) (core : Core) → Why chosen fields id → CoreFacts core → CoreFacts (rowEffect chosen fields core)
+effect-facts Foreign fields id core w f = f
+effect-facts Outside fields id core w f = f
+effect-facts WithoutSetting fields id core w f = f
+effect-facts Store fields id core w f = store-keeps (fields .sub) (fields .«data») core (w .2) f
+effect-facts Reset fields id core w f = fresh-facts (core .ids) (f .of-ids) .of-core
+effect-facts Other fields id core w f = f
 
 abbrev RowWellFormed : Row → Type 0
 RowWellFormed done = CoreFacts (done .core)
 
 good-facts : (kind : Kind) (fields : Fields) (core : Core) → CoreFacts core → RowWellFormed (goodRow kind fields core)
 good-facts Short fields core f = cleared-facts (fields .«data») core f
-good-facts Long fields core f = effect-facts (longRow fields (core .ids .id)) fields core f
+good-facts Long fields core f = effect-facts (longRow fields (core .ids .id)) fields (core .ids .id) core (why fields (core .ids .id)) f
 
 pub finished-facts : (kind : Kind) (frame : Answer) (idle : Clocked) → CoreFacts (idle .core) → CoreFacts (finished kind frame idle .core)
 unfolding finished tableRow

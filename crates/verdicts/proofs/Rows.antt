@@ -19,12 +19,14 @@ use Rattle.frame.specs.Decode.{bareAnswer, goodAnswer, answerTo}
 use Rattle.receiver_state.specs.declared.Counters.{Counters}
 use Rattle.receiver_state.specs.declared.Core.{Core}
 use Rattle.receiver_state.specs.State.{withCounters, freshCore}
+use Rattle.register_map.specs.Map.{withoutSetting}
+use Rattle.register_map.proofs.Laws.{without-setting-law}
 use Rattle.verdicts.specs.declared.LongRow.{LongRow}
-use Rattle.verdicts.specs.declared.LongRow.the-variants.{Foreign, Outside, Store, Reset, Other}
+use Rattle.verdicts.specs.declared.LongRow.the-variants.{Foreign, Outside, WithoutSetting, Store, Reset, Other}
 use Rattle.verdicts.specs.declared.Row.{Row}
 use Rattle.verdicts.specs.Table.{dropped, largestVerdict, doubleUp, clearedBy, foreign, longRow, rowVerdict, rowEffect, row, tableRow}
 use Rattle.verdicts.specs.Finished.{countErrors}
-use Rattle.verdicts.specs.FrameLaws.{Ours}
+use Rattle.verdicts.specs.FrameLaws.{Ours, DataWithoutSetting}
 
 -- ---- verdicts of dropped frames
 
@@ -48,13 +50,26 @@ foreign-yes address id e = ⊎-elim (λ z. true≢false (sym (rw (eq-eqb address
     last true = refl
     last false = refl
 
+-- ---- data without a setting
+
+pub without-data : (fields : Fields) → withoutSetting (fields .sub) (fields .«data») ≡ true → DataWithoutSetting fields
+without-data fields = without-setting-law (fields .sub) (fields .«data») .0
+
+pub with-data : (fields : Fields) → withoutSetting (fields .sub) (fields .«data») ≡ false → DataWithoutSetting fields → ⊥
+with-data fields e d = true≢false (sym (without-setting-law (fields .sub) (fields .«data») .1 d) ∙ e)
+
+-- they are for register 0 or 1
+pub without-low : (fields : Fields) → DataWithoutSetting fields → fields .sub < 2
+without-low fields d = ⊎-elim (λ z. omega arith) (λ z. omega arith) (d .0)
+
 -- ---- which row is chosen
 
 -- the condition of each row, with what those above it leave
 abbrev pub Why : LongRow → Fields → ℕ → Type 0
 Why Foreign fields id = Ours fields id → ⊥
 Why Outside fields id = Ours fields id × (fields .e ≡ 1)
-Why Store fields id = Ours fields id × (fields .e ≢ 1) × (fields .sub < 4)
+Why WithoutSetting fields id = Ours fields id × (fields .e ≢ 1) × (withoutSetting (fields .sub) (fields .«data») ≡ true)
+Why Store fields id = Ours fields id × (fields .e ≢ 1) × (withoutSetting (fields .sub) (fields .«data») ≡ false) × (fields .sub < 4)
 Why Reset fields id = Ours fields id × (fields .e ≢ 1) × (4 ≤ fields .sub) × (fields .sub ≡ 6)
 Why Other fields id = Ours fields id × (fields .e ≢ 1) × (4 ≤ fields .sub) × (fields .sub ≢ 6)
 
@@ -65,9 +80,10 @@ why fields id =
     (λ a. let ours = foreign-no (fields .address) id a in
     picked-by For (eqb (fields .e) 1) (λ e. (ours, eqb-true (fields .e) 1 e))
     (λ e. let inside = eqb-false (fields .e) 1 e in
-    picked-by For (ltb (fields .sub) 4) (λ s. (ours, inside, ltb-true (fields .sub) 4 s))
+    picked-by For (withoutSetting (fields .sub) (fields .«data»)) (λ w. (ours, inside, w))
+    (λ w. picked-by For (ltb (fields .sub) 4) (λ s. (ours, inside, w, ltb-true (fields .sub) 4 s))
     (λ s. let high = ltb-false (fields .sub) 4 s in
-    picked-by For (eqb (fields .sub) 6) (λ r. (ours, inside, high, eqb-true (fields .sub) 6 r)) (λ r. (ours, inside, high, eqb-false (fields .sub) 6 r)))))
+    picked-by For (eqb (fields .sub) 6) (λ r. (ours, inside, high, eqb-true (fields .sub) 6 r)) (λ r. (ours, inside, high, eqb-false (fields .sub) 6 r))))))
   where
     For : LongRow → Type 0
     For chosen = Why chosen fields id
@@ -115,6 +131,7 @@ long-facts : (core counted : Core) (fields : Fields) (chosen : LongRow) → coun
     → RowFacts core (row (rowVerdict chosen) (rowEffect chosen fields counted))
 long-facts core counted fields Foreign s i = other core counted (rowVerdict Foreign) (λ e. omega arith) (λ e. omega arith) (omega arith) s i
 long-facts core counted fields Outside s i = other core counted (rowVerdict Outside) (λ e. omega arith) (λ e. omega arith) (omega arith) s i
+long-facts core counted fields WithoutSetting s i = other core counted (rowVerdict WithoutSetting) (λ e. omega arith) (λ e. omega arith) (omega arith) s i
 long-facts core counted fields Store s i = other core _ (rowVerdict Store) (λ e. omega arith) (λ e. omega arith) (omega arith) s i
 long-facts core counted fields Reset s i =
     record { not-zero = λ e. omega arith; not-larger = omega arith; reset = λ e. ap freshCore i; sequence-stays = λ n. absurd (n refl); ids-stay = i }

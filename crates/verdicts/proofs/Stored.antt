@@ -17,7 +17,7 @@ use Rattle.receiver_state.specs.declared.Clocked.{Clocked}
 use Rattle.receiver_state.specs.State.{withCounters, freshCore}
 use Rattle.register_map.specs.Change.{stored, storeByte}
 use Rattle.verdicts.specs.declared.LongRow.{LongRow}
-use Rattle.verdicts.specs.declared.LongRow.the-variants.{Foreign, Outside, Store, Reset, Other}
+use Rattle.verdicts.specs.declared.LongRow.the-variants.{Foreign, Outside, WithoutSetting, Store, Reset, Other}
 use Rattle.verdicts.specs.declared.Row.{Row}
 use Rattle.verdicts.specs.Table.{dropped, doubleUp, rowVerdict, rowEffect, row}
 use Rattle.verdicts.specs.Finished.{countErrors, shown, finished}
@@ -87,7 +87,8 @@ long-settings : (flag word id : ℕ) (idle : Clocked) (chosen : LongRow) → Why
 unfolding countErrors
 long-settings flag word id idle Foreign w = kept-settings (rowVerdict Foreign) (goodAnswer Long flag word) (countErrors (goodAnswer Long flag word) (idle .core)) idle (λ e. omega arith) refl
 long-settings flag word id idle Outside w = kept-settings (rowVerdict Outside) (goodAnswer Long flag word) (countErrors (goodAnswer Long flag word) (idle .core)) idle (λ e. omega arith) refl
-long-settings flag word id idle Store w = stored-settings flag word (countErrors (goodAnswer Long flag word) (idle .core)) idle refl (w .2)
+long-settings flag word id idle WithoutSetting w = kept-settings (rowVerdict WithoutSetting) (goodAnswer Long flag word) (countErrors (goodAnswer Long flag word) (idle .core)) idle (λ e. omega arith) refl
+long-settings flag word id idle Store w = stored-settings flag word (countErrors (goodAnswer Long flag word) (idle .core)) idle refl (w .3)
 long-settings flag word id idle Reset w = reset-settings (goodAnswer Long flag word) (freshCore (idle .core .ids)) idle
 long-settings flag word id idle Other w = kept-settings (rowVerdict Other) (goodAnswer Long flag word) (countErrors (goodAnswer Long flag word) (idle .core)) idle (λ e. omega arith) refl
 

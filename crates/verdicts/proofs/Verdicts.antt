@@ -23,12 +23,12 @@ use Rattle.frame.specs.Decode.{fixedZero, judgedWord, judged, answerTo, finishe
 use Rattle.receiver_state.specs.declared.Core.{Core}
 use Rattle.receiver_state.specs.declared.Clocked.{Clocked}
 use Rattle.verdicts.specs.declared.LongRow.{LongRow}
-use Rattle.verdicts.specs.declared.LongRow.the-variants.{Foreign, Outside, Store, Reset, Other}
+use Rattle.verdicts.specs.declared.LongRow.the-variants.{Foreign, Outside, WithoutSetting, Store, Reset, Other}
 use Rattle.verdicts.specs.declared.Row.{Row}
 use Rattle.verdicts.specs.Table.{dropped, longRow, rowVerdict, tableRow}
 use Rattle.verdicts.specs.Finished.{countErrors, shown, finished, finishedBy}
 use Rattle.verdicts.specs.FrameLaws.{LongVerdict, ShowsFrame}
-use Rattle.verdicts.proofs.Rows.{not-dropped, Why, why, by-row}
+use Rattle.verdicts.proofs.Rows.{not-dropped, without-data, without-low, with-data, Why, why, by-row}
 
 -- a finished frame is decoded as without a receiver
 pub finished-answer : (columns : Kind → List ℕ) (kind : Kind) (number : ℕ) → isFrame kind number ≡ true
@@ -43,7 +43,8 @@ long-verdict fields id Foreign w =
     record {
       row-5 = λ a d. refl;
       row-4 = λ o e. absurd (w o);
-      row-2 = λ o n h. absurd (w o);
+      row-10 = λ o n d. absurd (w o);
+      row-2 = λ o n d h. absurd (w o);
       row-3 = λ o n h. absurd (w o);
       row-6 = λ o n h m. absurd (w o);
     }
@@ -51,23 +52,35 @@ long-verdict fields id Outside w =
     record {
       row-5 = λ a d. absurd (⊎-elim a d (w .0));
       row-4 = λ o e. refl;
-      row-2 = λ o n h. absurd (n (w .1));
+      row-10 = λ o n d. absurd (n (w .1));
+      row-2 = λ o n d h. absurd (n (w .1));
       row-3 = λ o n h. absurd (n (w .1));
       row-6 = λ o n h m. absurd (n (w .1));
+    }
+long-verdict fields id WithoutSetting w =
+    record {
+      row-5 = λ a d. absurd (⊎-elim a d (w .0));
+      row-4 = λ o e. absurd (w .1 e);
+      row-10 = λ o n d. refl;
+      row-2 = λ o n d h. absurd (d (without-data fields (w .2)));
+      row-3 = λ o n h. absurd (omega (arith, without-low fields (without-data fields (w .2)), h));
+      row-6 = λ o n h m. absurd (omega (arith, without-low fields (without-data fields (w .2)), h));
     }
 long-verdict fields id Store w =
     record {
       row-5 = λ a d. absurd (⊎-elim a d (w .0));
       row-4 = λ o e. absurd (w .1 e);
-      row-2 = λ o n h. refl;
-      row-3 = λ o n h. absurd (omega (arith, w .2, h));
-      row-6 = λ o n h m. absurd (omega (arith, w .2, h));
+      row-10 = λ o n d. absurd (with-data fields (w .2) d);
+      row-2 = λ o n d h. refl;
+      row-3 = λ o n h. absurd (omega (arith, w .3, h));
+      row-6 = λ o n h m. absurd (omega (arith, w .3, h));
     }
 long-verdict fields id Reset w =
     record {
       row-5 = λ a d. absurd (⊎-elim a d (w .0));
       row-4 = λ o e. absurd (w .1 e);
-      row-2 = λ o n h. absurd (omega (arith, w .2, h));
+      row-10 = λ o n d. absurd (omega (arith, without-low fields d, w .2));
+      row-2 = λ o n d h. absurd (omega (arith, w .2, h));
       row-3 = λ o n h. refl;
       row-6 = λ o n h m. absurd (m (w .3));
     }
@@ -75,7 +88,8 @@ long-verdict fields id Other w =
     record {
       row-5 = λ a d. absurd (⊎-elim a d (w .0));
       row-4 = λ o e. absurd (w .1 e);
-      row-2 = λ o n h. absurd (omega (arith, w .2, h));
+      row-10 = λ o n d. absurd (omega (arith, without-low fields d, w .2));
+      row-2 = λ o n d h. absurd (omega (arith, w .2, h));
       row-3 = λ o n h. absurd (w .3 h);
       row-6 = λ o n h m. refl;
     }
@@ -84,6 +98,7 @@ no-row-dropped : (chosen : LongRow) → dropped (rowVerdict chosen) ≡ true →
 unfolding dropped oneOf
 no-row-dropped Foreign e = true≢false (sym e)
 no-row-dropped Outside e = true≢false (sym e)
+no-row-dropped WithoutSetting e = true≢false (sym e)
 no-row-dropped Store e = true≢false (sym e)
 no-row-dropped Reset e = true≢false (sym e)
 no-row-dropped Other e = true≢false (sym e)

@@ -16,6 +16,7 @@ use Rattle.verdicts.specs.declared.Row.{Row}
 use Rattle.verdicts.specs.Table.{upTo, tableRow}
 
 -- "For verdicts 1 to 6 a corrected frame .. raises the single error counter; RESET then clears it": the counter goes up before the row's effect.
+-- Document 02, Q-4, of verdict 10: "corrected flag and single counter as for verdict 2".
 -- For 7, 8 and 9 the flag is 0. The single error counter stops "at 65535".
 -- "Bit 5 is cleared by verdict 7 and set by any other finished frame."
 unfoldable pub countErrors : Answer → Core → Core

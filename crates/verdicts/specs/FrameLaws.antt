@@ -1,4 +1,4 @@
--- Document 01, "Fate of a finished frame", as facts of what a clock shows and leaves: the words of Laws.antt, here and in the crate `receiver`.
+-- Document 01, "Fate of a finished frame", with document 02, Q-4, as facts of what a clock shows and leaves: the words of Laws.antt, here and in the crate `receiver`.
 use Prim.Native.Nat.{ℕ, _+_, _/_, _%_, _^_, _<_, _≤_}
 use mathlib.Core.Path.{_≡_}
 use mathlib.Core.Logic.{_≢_, _⊎_, _↔_}
@@ -18,6 +18,7 @@ use Rattle.receiver_state.specs.declared.Settings.{Settings}
 use Rattle.receiver_state.specs.declared.Errors.{Errors}
 use Rattle.receiver_state.specs.declared.Counters.{Counters}
 use Rattle.receiver_state.specs.declared.Outputs.{Outputs}
+use Rattle.register_map.specs.Laws.{NoSetting}
 use Rattle.verdicts.specs.Table.{dropped}
 
 -- ---- verdict, flag and word
@@ -26,11 +27,16 @@ use Rattle.verdicts.specs.Table.{dropped}
 abbrev pub Ours : Fields → ℕ → Type 0
 Ours fields id = (fields .address ≡ 0) ⊎ (fields .address ≡ id)
 
+-- "such data for" registers 0 and 1: by the corrected fields
+abbrev pub DataWithoutSetting : Fields → Type 0
+DataWithoutSetting fields = NoSetting (fields .sub) (fields .«data»)
+
 -- the rows of a good long frame, each with what those above it leave
 pub record LongVerdict (fields : Fields) (id verdict : ℕ) : Type 0 where
   pub row-5 : fields .address ≢ 0 → fields .address ≢ id → verdict ≡ 5
   pub row-4 : Ours fields id → fields .e ≡ 1 → verdict ≡ 4
-  pub row-2 : Ours fields id → fields .e ≢ 1 → fields .sub < 4 → verdict ≡ 2
+  pub row-10 : Ours fields id → fields .e ≢ 1 → DataWithoutSetting fields → verdict ≡ 10
+  pub row-2 : Ours fields id → fields .e ≢ 1 → (DataWithoutSetting fields → ⊥) → fields .sub < 4 → verdict ≡ 2
   pub row-3 : Ours fields id → fields .e ≢ 1 → fields .sub ≡ 6 → verdict ≡ 3
   pub row-6 : Ours fields id → fields .e ≢ 1 → 4 ≤ fields .sub → fields .sub ≢ 6 → verdict ≡ 6
 
@@ -101,10 +107,11 @@ pub record CountersMove (before : Counters) (shown : Outputs) (after : Counters)
 
 -- ---- executed frames
 
--- the rows 1 to 4 by their words: short; or addressed to all or to this ID, and E = 1, sub-address 0 to 3 or RESET
+-- the rows 1 to 4 by their words: short; or addressed to all or to this ID, and E = 1, sub-address 0 to 3 with data that can be stored, or RESET
 abbrev pub ExecutedRow : Kind → Fields → ℕ → Type 0
 ExecutedRow Short fields id = Unit {0}
-ExecutedRow Long fields id = Ours fields id × ((fields .e ≡ 1) ⊎ ((fields .sub < 4) ⊎ (fields .sub ≡ 6)))
+ExecutedRow Long fields id =
+    Ours fields id × ((fields .e ≡ 1) ⊎ (((fields .sub < 4) × (DataWithoutSetting fields → ⊥)) ⊎ (fields .sub ≡ 6)))
 
 -- the number has stop bit 1, and is a properly encoded frame with no bit or one protected bit flipped, whose row is 1 to 4.
 -- 01's "Traps": "Correcting before testing the stop bit, so a slipped frame is executed."

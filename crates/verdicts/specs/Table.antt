@@ -1,4 +1,4 @@
--- Document 01, "Fate of a finished frame": the table of verdicts. A row is the verdict, and the core after the effect.
+-- Document 01, "Fate of a finished frame", with document 02, Q-4: the table of verdicts. A row is the verdict, and the core after the effect.
 -- `LongRow` and `Row` are an enum and a struct of src/lib.rt.
 use Prim.Native.Nat.{ℕ, _+_, _/_, _%_}
 use mathlib.Core.Bool.{Bool, cond, not, _&&_}
@@ -11,14 +11,15 @@ use Rattle.frame.specs.declared.Fields.{Fields}
 use Rattle.frame.specs.declared.Answer.{Answer}
 use Rattle.receiver_state.specs.declared.Core.{Core}
 use Rattle.receiver_state.specs.State.{errors, withErrors, freshCore}
+use Rattle.register_map.specs.Map.{withoutSetting}
 use Rattle.register_map.specs.Change.{storeByte, clearBunch, clearEvent}
 use Rattle.verdicts.specs.declared.LongRow.{LongRow}
-use Rattle.verdicts.specs.declared.LongRow.the-variants.{Foreign, Outside, Store, Reset, Other}
+use Rattle.verdicts.specs.declared.LongRow.the-variants.{Foreign, Outside, WithoutSetting, Store, Reset, Other}
 use Rattle.verdicts.specs.declared.Row.{Row}
 
 -- ---- verdicts
 
--- 01's term "executed": "means verdicts 1 to 4"
+-- 01's term "executed": "means verdicts 1 to 4"; document 02, Q-4, of verdict 10: "not counted as executed"
 unfoldable pub executed : ℕ → Bool
 executed verdict = oneOf (1 ∷ 2 ∷ 3 ∷ 4 ∷ []) verdict
 
@@ -28,7 +29,7 @@ dropped verdict = oneOf (7 ∷ 8 ∷ 9 ∷ []) verdict
 
 -- no verdict is larger (`not-larger` of `VerdictLaws`)
 abbrev pub largestVerdict : ℕ
-largestVerdict = 9
+largestVerdict = 10
 
 -- ---- effects
 
@@ -59,25 +60,29 @@ longRow fields id =
     cond (foreign (fields .address) id) Foreign
     -- "E = 1"
     (cond (eqb (fields .e) 1) Outside
+    -- document 02, Q-4: "an internal frame with such data for them .., tested just before 2"
+    (cond (withoutSetting (fields .sub) (fields .«data»)) WithoutSetting
     -- "sub-address 0, 1, 2 or 3"
     (cond (ltb (fields .sub) 4) Store
     -- "sub-address 6 (RESET)"
     (cond (eqb (fields .sub) 6) Reset
     -- "other sub-address"
-    Other)))
+    Other))))
 
 abbrev pub rowVerdict : LongRow → ℕ
 rowVerdict Foreign = 5
 rowVerdict Outside = 4
+rowVerdict WithoutSetting = 10
 rowVerdict Store = 2
 rowVerdict Reset = 3
 rowVerdict Other = 6
 
--- "none" for 5 and 6; 4, "word shown outside", has none in the core; 2, "data goes to that register"; 3, "state becomes the fresh one of the same
--- IDs"
+-- "none" for 5 and 6; 4, "word shown outside", has none in the core; 10, "nothing stored"; 2, "data goes to that register"; 3, "state becomes the
+-- fresh one of the same IDs"
 abbrev pub rowEffect : LongRow → Fields → Core → Core
 rowEffect Foreign fields core = core
 rowEffect Outside fields core = core
+rowEffect WithoutSetting fields core = core
 rowEffect Store fields core = storeByte (fields .sub) (fields .«data») core
 rowEffect Reset fields core = freshCore (core .ids)
 rowEffect Other fields core = core

@@ -1,5 +1,5 @@
-// Document 01, "Fate of a finished frame": the table of verdicts, as a change of what steps 1 and 2
-// of the same clock leave and show. Every function takes any decoded frame and any core.
+// Document 01, "Fate of a finished frame", with document 02, Q-4: the table of verdicts, as a change of
+// what steps 1 and 2 of the same clock leave and show. Every function takes any decoded frame and any core.
 //
 // The core and the outputs go by value, like the state that they belong to.
 ghost use mathlib.Core.Path.{_≡_};
@@ -17,11 +17,13 @@ use receiver_state::fresh_core;
 use register_map::clear_bunch;
 use register_map::clear_event;
 use register_map::store_byte;
+use register_map::without_setting;
 
 // The rows of a good long frame.
 pub enum LongRow {
     Foreign,
     Outside,
+    WithoutSetting,
     Store,
     Reset,
     Other,
@@ -117,6 +119,9 @@ fn long_row(fields: Fields, id: u16) -> LongRow
     if fields.e == 1 {
         return LongRow::Outside;
     }
+    if without_setting(fields.sub, fields.data) {
+        return LongRow::WithoutSetting;
+    }
     if fields.sub < 4 {
         return LongRow::Store;
     }
@@ -132,6 +137,7 @@ fn row_verdict(chosen: LongRow) -> u8
     match chosen {
         LongRow::Foreign => 5,
         LongRow::Outside => 4,
+        LongRow::WithoutSetting => 10,
         LongRow::Store => 2,
         LongRow::Reset => 3,
         LongRow::Other => 6,
@@ -144,6 +150,7 @@ fn row_effect(chosen: LongRow, fields: Fields, core: Core) -> Core
     match chosen {
         LongRow::Foreign => core,
         LongRow::Outside => core,
+        LongRow::WithoutSetting => core,
         LongRow::Store => store_byte(fields.sub, fields.data, core),
         LongRow::Reset => fresh_core(core.ids),
         LongRow::Other => core,

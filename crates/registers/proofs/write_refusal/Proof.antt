@@ -19,16 +19,23 @@ returns-2 : tie.Need-returns-2
 unfolding writeRefusal
 returns-2 c = search picks
 
-config-wrong-requires : tie.Need-config-wrong-requires
-config-wrong-requires c κs = search needs
+without-setting-requires : tie.Need-without-setting-requires
+without-setting-requires c κs = search needs
 
 returns-3 : tie.Need-returns-3
 unfolding writeRefusal
 returns-3 c = search picks
 
+config-wrong-requires : tie.Need-config-wrong-requires
+config-wrong-requires c κs = search needs
+
 returns-4 : tie.Need-returns-4
 unfolding writeRefusal
-returns-4 c = search picks
+returns-4 c = search picks depth 8
+
+returns-5 : tie.Need-returns-5
+unfolding writeRefusal
+returns-5 c = search picks depth 8
 
 pub write-refusal-spec : {M : Type 1} → statement M
 write-refusal-spec =
@@ -38,6 +45,8 @@ write-refusal-spec =
     returns
     read-only-requires
     returns-2
-    config-wrong-requires
+    without-setting-requires
     returns-3
-    returns-4)
+    config-wrong-requires
+    returns-4
+    returns-5)
