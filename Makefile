@@ -23,8 +23,9 @@ IN_WORDS = \
 	-e 's/^[0-9]+ ! 10$$/refused: not 4 or 11 characters/' \
 	-e 's/^[0-9]+ ! 11$$/refused: a character is no hexadecimal digit/' \
 	-e 's/^[0-9]+ ! 12$$/refused: start, format or leading bits are wrong/' \
-	-e 's/^[0-9]+ ([1-6]) 1 .*/verdict \1, after one wrong bit was corrected/' \
-	-e 's/^[0-9]+ ([1-9]) 0 .*/verdict \1/' \
+	-e 's/^[0-9]+ ([1-6]|10) 1 .*/verdict \1, after one wrong bit was corrected/' \
+	-e 's/^[0-9]+ ([1-9]|10) 0 .*/verdict \1/' \
+	-e 's/^verdict 10/the byte belongs to no fine delay setting: not stored/' \
 	-e 's/^verdict 1/broadcast, executed/' \
 	-e 's/^verdict 2/data stored in a register/' \
 	-e 's/^verdict 3/RESET: the receiver is fresh again/' \

@@ -37,7 +37,7 @@ extern "C" {
  * value, so a program must be compiled with the header of the archive that it is linked with:
  * compare TTCRX_VERSION with ttcrx_version() once, at the start.
  */
-#define TTCRX_VERSION 2
+#define TTCRX_VERSION 3
 
 /* The version of the archive. Refuses nothing. */
 uint32_t ttcrx_version(void);
@@ -63,12 +63,13 @@ uint32_t ttcrx_version(void);
 #define TTCRX_REFUSED_LINE_BUFFER 14   /* a buffer too small for a line: under 5 or 12 bytes */
 #define TTCRX_REFUSED_BLOCK_LENGTH 15  /* a block of more than TTCRX_BLOCK_CLOCKS bytes */
 #define TTCRX_REFUSED_RECORD_BUFFER 16 /* fewer than five numbers of room for each byte of a block */
+#define TTCRX_REFUSED_FINE_DELAY 17    /* a write to 0 or 1: the byte belongs to no fine delay setting */
 
 /*
  * Verdicts on a finished frame, the field verdict of a clock's outputs. 1 to 4 were executed; 7 to 9
- * were dropped, and each raised the double error counter, up to 255. A frame with verdict 1, 2, 4, 5
- * or 6 that was corrected raised the single error counter, up to 65535. RESET clears both, and so does
- * a write to their registers.
+ * were dropped, and each raised the double error counter, up to 255. A frame with verdict 1, 2, 4, 5,
+ * 6 or 10 that was corrected raised the single error counter, up to 65535. RESET clears both, and so
+ * does a write to their registers.
  *
  * After a finished frame with any other verdict than 7 the receiver waits for a start bit, and the next
  * bit may be one. After verdict 7 it wants 41 ones in a row on channel B first: a 0 among them is no
@@ -85,6 +86,7 @@ uint32_t ttcrx_version(void);
 #define TTCRX_VERDICT_STOP_BIT 7          /* the stop bit was 0: dropped; 41 ones are wanted then */
 #define TTCRX_VERDICT_UNCORRECTABLE 8     /* more bits were wrong than can be corrected: dropped */
 #define TTCRX_VERDICT_FIXED_BIT 9         /* long, fixed bit 0 after correction: dropped */
+#define TTCRX_VERDICT_NO_SETTING 10       /* for register 0 or 1, but data 240 to 255: nothing stored */
 
 /* The field verdict of a decoder is this, or one of the verdicts 7, 8 and 9. */
 #define TTCRX_DECODED_GOOD 0
@@ -166,8 +168,8 @@ typedef struct ttcrx_ids {
 
 /* Registers 0 to 3, 20 and 21. */
 typedef struct ttcrx_settings {
-    uint8_t fine1;
-    uint8_t fine2;
+    uint8_t fine1;   /* under 240: the byte of a fine delay setting */
+    uint8_t fine2;   /* likewise */
     uint8_t coarse;
     uint8_t control;
     uint8_t config2; /* bits 6 to 0 are those of 0x85 */
@@ -323,8 +325,8 @@ typedef struct ttcrx_reported {
 } ttcrx_reported;
 
 /* Room for the text of any line, and room that is always enough for the end. */
-#define TTCRX_LONGEST_LINE 34
-#define TTCRX_LONGEST_END 65
+#define TTCRX_LONGEST_LINE 35
+#define TTCRX_LONGEST_END 66
 
 /* The short frame of a byte. Refuses nothing. */
 ttcrx_encoded ttcrx_encode_short(uint8_t data);
@@ -397,8 +399,9 @@ ttcrx_read_answer ttcrx_read(ttcrx_receiver receiver, uint8_t register_number);
  * Writes a byte to a register. Registers 0 to 3, 20 and 21 store it; a write to any byte of a
  * counter clears all of the counter, whatever the value; register 11 stays 0. Refusals, in this
  * order: 2: a state that is not well formed; 5: a register that is not in the map; 6: register 16,
- * 17, 18 or 22; 7: register 20 or 21, and a byte that differs from the fresh one in bits 6 to 0. The
- * receiver is then the one given.
+ * 17, 18 or 22; then 17: register 0 or 1, and a byte over 239, which belongs to no setting; or 7:
+ * register 20 or 21, and a byte that differs from the fresh one in bits 6 to 0. The receiver is then
+ * the one given.
  */
 ttcrx_write_answer ttcrx_write(ttcrx_receiver receiver, uint8_t register_number, uint8_t value);
 

@@ -51,11 +51,15 @@ long-effect fields shown idle after range w m fresh =
       stored-byte = λ v. ap (registerOf (after .settings)) (sym sub) ∙ m .stored-byte v ∙ byte;
       others-stay = λ v number h n. m .others-stay v number h (λ e. n (e ∙ sub));
       config-stays = λ v. m .config-stays (two-not-three v);
+      nothing-stored = λ v. m .settings-stay (λ z. ten-not v z (λ e. omega arith)) (λ z. ten-not v z (λ e. omega arith));
       fresh = fresh;
     }
   where
     two-not-three : shown .verdict ≡ 2 → shown .verdict ≢ 3
     two-not-three v z = omega arith
+
+    ten-not : {n : ℕ} → shown .verdict ≡ 10 → shown .verdict ≡ n → (_≡_ {A = ℕ} 10 n → ⊥) → ⊥
+    ten-not v z no-ten = no-ten (sym v ∙ z)
 
 -- the number is a frame, and decodes to these fields without a correction
 pub record DecodesTo (columns : Kind → List ℕ) (kind : Kind) (number flag : ℕ) (fields : Fields) : Type 0 where

@@ -12,6 +12,7 @@ use Rattle.hamming.specs.Code.{checkNumber, syndrome, firstFrom, bySyndrome, de
 use Rattle.frame.specs.Numbers.{isFrame}
 use Rattle.frame.specs.Bits.{bitsOf}
 use Rattle.frame.specs.Decode.{judged, finishedAnswer}
+use Rattle.fine_delay.specs.Delay.{hasSetting}
 use Rattle.receiver_state.specs.WellFormed.{idsOk, settingsOk, countersOk, sequenceOk, coreOk, bitsOk, wantedOk, heldOk, wellFormed}
 use Rattle.receiver_state.specs.State.{holding, wantingOnes, isWaiting}
 use Rattle.register_map.specs.Change.{stored, afterWrite}
@@ -23,7 +24,7 @@ use Rattle.channel_b.specs.TakeBit.{frameOrPart, betweenFrames, takeBit, heldAf
 use Rattle.idle_clock.specs.IdleClock.{countClock, continued, started, busStep, idleClock}
 use Rattle.receiver.specs.Clock.{stepAnswer, clockAnswer}
 use Rattle.laws.specs.OneOf.{oneOf}
-use Rattle.register_map.specs.Map.{inMap, registerByte, readOnly, configWrong}
+use Rattle.register_map.specs.Map.{inMap, registerByte, readOnly, withoutSetting, configWrong}
 use Rattle.registers.specs.Access.{readRefusal, readAnswer, writeRefusal, writeAnswer}
 use Rattle.guarantees.specs.Calls.{call, run, answers, refusalOf, carried, channelB}
 use Rattle.guarantees.specs.FrameLists.{lastCall}
@@ -32,7 +33,7 @@ use Rattle.guarantees.specs.Examples.{idleClocks, TwentyCalls, FortyOnes
 use Rattle.guarantees.specs.BadStop.{First41st}
 
 pub twenty-calls : TwentyCalls
-unfolding ones lowestOne checkNumber syndrome firstFrom bySyndrome decodeWord isFrame judged every idsOk settingsOk countersOk sequenceOk coreOk bitsOk wantedOk heldOk wellFormed upTo doubleUp clearedBy stored longRow tableRow countErrors finished finishedAnswer isWaiting frameOrPart betweenFrames takeBit heldAfter countClock continued started busStep idleClock stepAnswer clockAnswer oneOf inMap registerByte readOnly configWrong afterWrite readRefusal readAnswer writeRefusal writeAnswer call run answers refusalOf carried channelB bitsOf carry
+unfolding ones lowestOne checkNumber syndrome firstFrom bySyndrome decodeWord isFrame judged every hasSetting idsOk settingsOk countersOk sequenceOk coreOk bitsOk wantedOk heldOk wellFormed upTo doubleUp clearedBy withoutSetting stored longRow tableRow countErrors finished finishedAnswer isWaiting frameOrPart betweenFrames takeBit heldAfter countClock continued started busStep idleClock stepAnswer clockAnswer oneOf inMap registerByte readOnly configWrong afterWrite readRefusal readAnswer writeRefusal writeAnswer call run answers refusalOf carried channelB bitsOf carry
 twenty-calls =
     record {
       frame-is = refl;
@@ -48,7 +49,7 @@ some : {n : ℕ} → suc n ≡ 0 → ⊥
 some e = omega arith
 
 pub forty-ones : FortyOnes
-unfolding isFrame every idsOk settingsOk countersOk sequenceOk coreOk bitsOk wantedOk heldOk wellFormed isWaiting frameOrPart betweenFrames takeBit heldAfter countClock continued started busStep idleClock stepAnswer clockAnswer call run refusalOf carried channelB
+unfolding isFrame every hasSetting idsOk settingsOk countersOk sequenceOk coreOk bitsOk wantedOk heldOk wellFormed isWaiting frameOrPart betweenFrames takeBit heldAfter countClock continued started busStep idleClock stepAnswer clockAnswer call run refusalOf carried channelB
 forty-ones = record { well-formed = refl; forty = refl; holds-41 = refl; waits-not = λ w. some (w .none-held) }
 
 one : {n : ℕ} → Unfinished (wantingOnes 41) ≡ Unfinished (holding 1 n) → ⊥
@@ -69,7 +70,7 @@ unfolding channelB carried refusalOf
 first-41st = record { none-before = λ earlier later. too-few (channelB (idleClocks 40)) earlier later (lit≤ tt); is-clock = refl; earlier = []; last-41 = refl }
 
 pub after-bad-stop : AfterBadStop
-unfolding ones lowestOne checkNumber syndrome firstFrom bySyndrome decodeWord isFrame judged every idsOk settingsOk countersOk sequenceOk coreOk bitsOk wantedOk heldOk wellFormed upTo doubleUp clearedBy stored longRow tableRow countErrors finished finishedAnswer frameOrPart betweenFrames takeBit heldAfter countClock continued started busStep idleClock stepAnswer clockAnswer call run lastCall
+unfolding ones lowestOne checkNumber syndrome firstFrom bySyndrome decodeWord isFrame judged every hasSetting idsOk settingsOk countersOk sequenceOk coreOk bitsOk wantedOk heldOk wellFormed upTo doubleUp clearedBy withoutSetting stored longRow tableRow countErrors finished finishedAnswer frameOrPart betweenFrames takeBit heldAfter countClock continued started busStep idleClock stepAnswer clockAnswer call run lastCall
 after-bad-stop =
     record {
       bad-stop = record { verdict-7 = refl; leaves = refl };

@@ -16,7 +16,7 @@ use Rattle.receiver_state.proofs.Shown.{frame-stands}
 use Rattle.idle_clock.specs.IdleClock.{idleClock}
 use Rattle.channel_b.specs.TakeBit.{Waits}
 use Rattle.verdicts.specs.declared.LongRow.{LongRow}
-use Rattle.verdicts.specs.declared.LongRow.the-variants.{Foreign, Outside, Store, Reset, Other}
+use Rattle.verdicts.specs.declared.LongRow.the-variants.{Foreign, Outside, WithoutSetting, Store, Reset, Other}
 use Rattle.verdicts.specs.Table.{doubleUp, clearedBy, longRow, tableRow}
 use Rattle.verdicts.specs.Finished.{countErrors, finished, finishedBy}
 use Rattle.verdicts.proofs.Counts.{one-higher}
@@ -98,6 +98,7 @@ corrected-frame Long fields idle = by-row (longRow fields (idle .receiver .core 
         → withFrame Long (fieldsAnswer Long 1 fields) idle ≡ withCorrection (withFrame Long (fieldsAnswer Long 0 fields) idle)
     by-row Foreign e = rw e refl
     by-row Outside e = rw e refl
+    by-row WithoutSetting e = rw e refl
     by-row Store e = rw e refl
     by-row Reset e = rw e refl
     by-row Other e = rw e refl

@@ -8,6 +8,7 @@ mod EveryList
 mod Ending
 pub mod Demand3
 pub mod BadStop
+pub mod FineDelays
 pub mod Existence
 pub mod Examples
 pub mod Blocks

@@ -68,12 +68,13 @@ pub record ShortEffect (fields : Fields) (idle after : Core) : Type 0 where
   pub event-cleared : fields .«data» / 2 % 2 ≡ 1 → after .counters .event ≡ 0
   pub event-not-cleared : fields .«data» / 2 % 2 ≡ 0 → after .counters .event ≡ idle .counters .event
 
--- and of a long one: of rows 4, 5 and 6 none in the state
+-- and of a long one: of rows 4, 5 and 6 none in the state, and of row 10 (document 02, Q-4) "nothing stored"
 pub record LongEffect (fields : Fields) (verdict : ℕ) (idle after : Core) : Type 0 where
   -- 2: "data goes to that register"
   pub stored-byte : verdict ≡ 2 → registerOf (after .settings) (fields .sub) ≡ fields .«data»
   pub others-stay : verdict ≡ 2 → (number : ℕ) → number < 4 → number ≢ fields .sub → registerOf (after .settings) number ≡ registerOf (idle .settings) number
   pub config-stays : verdict ≡ 2 → (after .settings .config2 ≡ idle .settings .config2) × (after .settings .config3 ≡ idle .settings .config3)
+  pub nothing-stored : verdict ≡ 10 → after .settings ≡ idle .settings
   -- 3: "state becomes the fresh one of the same IDs"; `reset-is-fresh` of `CleanLast` says it of what is held too
   pub fresh : verdict ≡ 3 → after ≡ freshCore (idle .ids)
 

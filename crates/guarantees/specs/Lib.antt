@@ -3,6 +3,7 @@ pub mod FrameLists
 pub mod LastClock
 pub mod Demand3
 pub mod BadStop
+pub mod FineDelays
 pub mod Existence
 pub mod Examples
 pub mod Blocks

@@ -19,10 +19,12 @@ use Rattle.receiver_state.specs.declared.Core.{Core}
 use Rattle.receiver_state.specs.declared.Held.{Held}
 use Rattle.receiver_state.specs.declared.Receiver.{Receiver}
 use Rattle.receiver_state.specs.State.{ids, errors, counters, noSequence, wantingOnes, nothingHeld, receiver}
+use Rattle.fine_delay.specs.Delay.{hasSetting}
 use Rattle.receiver_state.specs.WellFormed.{idsOk, settingsOk, countersOk, sequenceOk, coreOk, bitsOk, wantedOk, heldOk, wellFormed}
 use Rattle.receiver_state.specs.declared.Outputs.{Outputs}
 use Rattle.receiver_state.specs.declared.Clocked.{Clocked}
 use Rattle.receiver_state.specs.Shown.{noOutputs, showingFrame}
+use Rattle.register_map.specs.Map.{withoutSetting}
 use Rattle.register_map.specs.Change.{stored}
 use Rattle.idle_clock.specs.AtRest.{restFor}
 use Rattle.channel_b.specs.TakeBit.{heldAfter}
@@ -144,11 +146,11 @@ record EightLines : Type 0 where
 
 -- the ones after the third line, done at once
 ones-after-third : onesSent columnsOf (clockedAnswer (wantingOnes 41) (clocked (having 0 1 1 0 32) (showing 7 0 0))) ≡ waiting (having 0 1 1 0 73)
-unfolding onesSent every idsOk settingsOk countersOk sequenceOk coreOk bitsOk wantedOk heldOk wellFormed restFor
+unfolding onesSent every hasSetting idsOk settingsOk countersOk sequenceOk coreOk bitsOk wantedOk heldOk wellFormed restFor
 ones-after-third = ap (λ (a : ClockAnswer). a .receiver) (receiver-whole-frames .ones-after-7 (receiver (having 0 1 1 0 32) (wantingOnes 41)) refl refl .0)
 
 eight-lines : EightLines
-unfolding ones lowestOne every checkNumber syndrome firstFrom bySyndrome decodeWord isFrame judged idsOk settingsOk countersOk sequenceOk coreOk bitsOk wantedOk heldOk wellFormed upTo doubleUp clearedBy stored foreign longRow tableRow countErrors finished finishedAnswer heldAfter restFor digitValue allDigits hexNumber hexAnswer digitCharacter hexDigits readLine decimalUpTo decimal wordText verdictText refusalText answerText lineText countsText endText linesPrint onesSent
+unfolding ones lowestOne hasSetting every checkNumber syndrome firstFrom bySyndrome decodeWord isFrame judged idsOk settingsOk countersOk sequenceOk coreOk bitsOk wantedOk heldOk wellFormed upTo doubleUp clearedBy withoutSetting stored foreign longRow tableRow countErrors finished finishedAnswer heldAfter restFor digitValue allDigits hexNumber hexAnswer digitCharacter hexDigits readLine decimalUpTo decimal wordText verdictText refusalText answerText lineText countsText endText linesPrint onesSent
 eight-lines =
     record {
       first = record { reads = refl; is-frame = refl; well-formed = refl; done = refl; leaves = refl; ones = refl; prints = refl };

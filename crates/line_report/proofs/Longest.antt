@@ -1,4 +1,4 @@
--- A line's text of 34 bytes, computed. Assumes nothing.
+-- A line's text of 35 bytes, and an end of 31 and of 63, computed. Assumes nothing.
 use mathlib.Core.Path.{refl}
 use Rattle.laws.specs.Tests.{every}
 use Rattle.laws.specs.LowestOne.{lowestOne}
@@ -6,7 +6,9 @@ use Rattle.hamming.specs.Code.{checkNumber, syndrome, firstFrom, bySyndrome, de
 use Rattle.frame.specs.Numbers.{isFrame}
 use Rattle.frame.specs.Bits.{bitsOf}
 use Rattle.frame.specs.Decode.{judged, finishedAnswer}
+use Rattle.fine_delay.specs.Delay.{hasSetting}
 use Rattle.receiver_state.specs.WellFormed.{idsOk, settingsOk, countersOk, sequenceOk, coreOk, bitsOk, wantedOk, heldOk, wellFormed}
+use Rattle.register_map.specs.Map.{withoutSetting}
 use Rattle.register_map.specs.Change.{stored}
 use Rattle.verdicts.specs.Table.{upTo, doubleUp, clearedBy, foreign, longRow, tableRow}
 use Rattle.verdicts.specs.Finished.{countErrors, finished}
@@ -16,10 +18,11 @@ use Rattle.receiver.specs.Clock.{stepAnswer, clockAnswer}
 use Rattle.whole_frame.specs.WholeFrame.{clocksAnswer, receiveAnswer}
 use Rattle.stored_line.specs.Digits.{digitValue, allDigits, hexNumber, hexAnswer, digitCharacter, hexDigits}
 use Rattle.stored_line.specs.Read.{readLine}
-use Rattle.line_report.specs.Text.{decimalUpTo, decimal, wordText, verdictText, refusalText, answerText, lineText}
-use Rattle.line_report.specs.Report.{readPart, bytePrints}
+use Rattle.line_report.specs.Text.{decimalUpTo, decimal, wordText, verdictText, refusalText, answerText, lineText, countsText, endText}
+use Rattle.line_report.specs.Output.{onesSent}
+use Rattle.line_report.specs.Report.{readPart, bytePrints, afterLast, lastPrints}
 use Rattle.line_report.specs.Cuts.{LongestReached}
 
 pub longest-reached : LongestReached
-unfolding every lowestOne checkNumber syndrome firstFrom bySyndrome decodeWord isFrame judged idsOk settingsOk countersOk sequenceOk coreOk bitsOk wantedOk heldOk wellFormed upTo doubleUp clearedBy stored foreign longRow tableRow countErrors finished finishedAnswer frameOrPart betweenFrames takeBit heldAfter countClock continued started busStep idleClock stepAnswer clockAnswer bitsOf clocksAnswer receiveAnswer digitValue allDigits hexNumber hexAnswer digitCharacter hexDigits readLine decimalUpTo decimal wordText verdictText refusalText answerText lineText readPart bytePrints
-longest-reached = refl
+unfolding hasSetting every lowestOne checkNumber syndrome firstFrom bySyndrome decodeWord isFrame judged idsOk settingsOk countersOk sequenceOk coreOk bitsOk wantedOk heldOk wellFormed upTo doubleUp clearedBy withoutSetting stored foreign longRow tableRow countErrors finished finishedAnswer frameOrPart betweenFrames takeBit heldAfter countClock continued started busStep idleClock stepAnswer clockAnswer bitsOf clocksAnswer receiveAnswer digitValue allDigits hexNumber hexAnswer digitCharacter hexDigits readLine decimalUpTo decimal wordText verdictText refusalText answerText lineText countsText endText readPart bytePrints afterLast lastPrints onesSent
+longest-reached = record { line = refl; counts = refl; full-is-well-formed = refl; last-line = refl }

@@ -3,13 +3,19 @@
 use Prim.Native.Nat.{ℕ, _+_, _-_, _*_, _^_, _≤_, _<_}
 use mathlib.Core.Path.{_≡_}
 use mathlib.Core.Logic.{_⊎_, _↔_}
+use mathlib.Core.Bool.{true}
 use mathlib.Core.List.{List, [], _∷_, _++_}
 use lib.ListN.{length, take, drop}
 use Rattle.frame.specs.declared.Kind.{Kind}
 use Rattle.frame.specs.Columns.{columnsOf}
+use Rattle.receiver_state.specs.declared.Receiver.{Receiver}
+use Rattle.receiver_state.specs.State.{ids, errors, counters, receiver, withErrors, withCounters, nothingHeld, freshCore}
+use Rattle.receiver_state.specs.WellFormed.{wellFormed}
+use Rattle.line_report.specs.declared.LinePart.{LinePart}
 use Rattle.line_report.specs.declared.Report.{Report}
+use Rattle.line_report.specs.Text.{endText}
 use Rattle.line_report.specs.Output.{linesOf, linesLeave, ownReceiver, outputOf}
-use Rattle.line_report.specs.Report.{linePart, report, startReport, bytePrints, afterBytes, bytesPrint, longestLine, Work, work, ReportDone, reportDone, roomWanted, reportInput, longestEnd, reportEnd}
+use Rattle.line_report.specs.Report.{linePart, report, startReport, bytePrints, afterBytes, bytesPrint, longestLine, Work, work, ReportDone, reportDone, roomWanted, reportInput, longestEnd, endPrints, reportEnd}
 
 -- ---- a list of calls
 
@@ -136,8 +142,22 @@ CutsTheorem = (columns : Kind → List ℕ) → Cuts columns
 abbrev pub ReportCuts : Type 0
 ReportCuts = Cuts columnsOf
 
--- `longestLine` is reached, by line 18446744073709551615 with the frame 100150235AD, whose word has 8 digits. Proved in proofs/Longest.antt.
-abbrev pub LongestReached : Type 0
-LongestReached =
-    let part = linePart 11 (49 ∷ 48 ∷ 48 ∷ 49 ∷ 53 ∷ 48 ∷ 50 ∷ 51 ∷ 53 ∷ 65 ∷ 68 ∷ []) in
-    length (bytePrints columnsOf (report ownReceiver (2 ^ 64 - 2) part) 10) ≡ longestLine
+-- ---- the longest texts
+
+-- the line 1001500F387, a frame with data 243 for register 0: verdict 10 has two digits, and the word has 8
+abbrev longLine : LinePart
+longLine = linePart 11 (49 ∷ 48 ∷ 48 ∷ 49 ∷ 53 ∷ 48 ∷ 48 ∷ 70 ∷ 51 ∷ 56 ∷ 55 ∷ [])
+
+-- well formed, with as many digits in its counters as there can be, 42 clocks on too
+abbrev pub fullReceiver : Receiver
+fullReceiver = receiver (withErrors (errors 65535 255 1) (withCounters (counters 1000 (2 ^ 24 - 1)) (freshCore (ids 5 5)))) nothingHeld
+
+-- Both parts of the bounds are reached. Proved in proofs/Longest.antt.
+pub record LongestReached : Type 0 where
+  -- by line 18446744073709551615
+  pub line : length (bytePrints columnsOf (report ownReceiver (2 ^ 64 - 2) longLine) 10) ≡ longestLine
+  -- by the largest numbers of these types, which only a receiver that is not well formed has; it would refuse the line
+  pub counts : longestLine + length (endText (2 ^ 16 - 1) (2 ^ 8 - 1) (2 ^ 32 - 1) (2 ^ 16 - 1)) ≡ longestEnd
+  -- so both do not come in one end; a well-formed receiver has one of 63 bytes
+  pub full-is-well-formed : wellFormed fullReceiver ≡ true
+  pub last-line : length (endPrints columnsOf (report fullReceiver (2 ^ 64 - 2) longLine)) ≡ 63

@@ -100,7 +100,7 @@ digitsOf n = cond (ltb n 10) 1 (cond (ltb n 100) 2 3)
 abbrev pub longestAnswer : ℕ
 longestAnswer = digitsOf largestVerdict + 1 + 1 + 1 + kindDigits Long
 
--- the longest text of a line: a line number of 20 digits, a space, an answer and the line feed; 34 in all
+-- the longest text of a line: a line number of 20 digits, a space, an answer and the line feed; 35 in all
 abbrev pub longestLine : ℕ
 longestLine = 20 + 1 + longestAnswer + 1
 
@@ -152,7 +152,7 @@ reportInput columns now input buffer =
 
 -- ---- the end of input
 
--- room that is always enough for the end: a last line, and 31 bytes for `end` with numbers of 5, 3, 10 and 5 digits; 65 in all
+-- room that is always enough for the end: a last line, and 31 bytes for `end` with numbers of 5, 3, 10 and 5 digits; 66 in all
 abbrev pub longestEnd : ℕ
 longestEnd = longestLine + 31
 

@@ -1,0 +1,218 @@
+-- Registers 0 and 1 over lists of calls, and the frames with a byte without a setting. Assumes nothing.
+use Prim.Native.Nat.{ℕ, _<_, _≤_}
+use mathlib.Core.Path.{_≡_, refl, sym, ap, subst, _∙_}
+use mathlib.Core.Logic.{_⊎_, inl, inr, ⊎-elim}
+use mathlib.Core.Bool.{true, false}
+use mathlib.Core.List.{List}
+use native.Mathlib.Omega.{arith}
+use lib.Dec.{eqb, ltb}
+use Rattle.laws.specs.OneOf.{oneOf}
+use Rattle.laws.proofs.Rules.{picked}
+use Rattle.fine_delay.specs.declared.DelaySetting.{DelaySetting}
+use Rattle.fine_delay.specs.Delay.{settingOf, hasSetting, settingToByte}
+use Rattle.fine_delay.proofs.Laws.{delay-laws, setting-laws}
+use Rattle.fine_delay.proofs.Inverse.{setting-back}
+use Rattle.frame.specs.declared.Kind.{Kind}
+use Rattle.frame.specs.declared.Kind.the-variants.{Long}
+use Rattle.frame.specs.declared.Fields.{Fields}
+use Rattle.frame.specs.Columns.{columnsOf}
+use Rattle.frame.specs.Frames.{InRange}
+use Rattle.frame.proofs.Columns.{tables-good}
+use Rattle.receiver_state.specs.declared.Ids.{Ids}
+use Rattle.receiver_state.specs.declared.Receiver.{Receiver}
+use Rattle.receiver_state.specs.declared.FreshAnswer.{FreshAnswer}
+use Rattle.receiver_state.specs.State.{freshAnswer}
+use Rattle.receiver_state.specs.WellFormed.{wellFormed}
+use Rattle.receiver_state.proofs.WellFormed.{receiver-facts}
+use Rattle.receiver_state.proofs.States.{fresh-laws}
+use Rattle.register_map.specs.Map.{inMap, registerByte}
+use Rattle.register_map.specs.Laws.{NoSetting}
+use Rattle.register_map.proofs.Stored.{store-laws}
+use Rattle.registers.specs.declared.WriteAnswer.{WriteAnswer}
+use Rattle.registers.proofs.Laws.{read-laws, write-laws}
+use Rattle.verdicts.specs.Table.{executed}
+use Rattle.verdicts.specs.FrameLaws.{OneHigher}
+use Rattle.guarantees.specs.Calls.{Call, clock, CallResult, run}
+use Rattle.guarantees.specs.FrameLists.{lastCall}
+use Rattle.guarantees.specs.LastClock.{OthersSame, rowMayChange, correctionMayChange, CleanLast, CorrectedLast}
+use Rattle.guarantees.specs.FineDelays as fine
+use Rattle.guarantees.proofs.Demand3.{demand3-theorem}
+
+-- ---- a well-formed state
+
+has-setting : (r : Receiver) (number : ℕ) → wellFormed r ≡ true → fine.DelayRegister number → hasSetting (registerByte (r .core) number) ≡ true
+unfolding registerByte
+has-setting r number e (inl n) = rw n (receiver-facts r e .of-core .of-settings .fine-1)
+has-setting r number e (inr n) = rw n (receiver-facts r e .of-core .of-settings .fine-2)
+
+in-map : (number : ℕ) → fine.DelayRegister number → inMap number ≡ true
+unfolding inMap oneOf
+in-map number (inl n) = rw n refl
+in-map number (inr n) = rw n refl
+
+holds-setting : (r : Receiver) (number : ℕ) → wellFormed r ≡ true → fine.DelayRegister number → fine.HoldsSetting r number
+holds-setting r number e n =
+    record {
+      of-setting = setting-laws .setting-named (registerByte (r .core) number) (has-setting r number e n);
+      read-gives = read-laws .accepted r number e (in-map number n);
+    }
+
+-- ---- a setting written
+
+low : (number : ℕ) → fine.DelayRegister number → number < 4
+low number = ⊎-elim (λ n. omega arith) (λ n. omega arith)
+
+-- the byte of a setting has it
+of-setting : (k : ℕ) → k ≤ 239 → (hasSetting (settingToByte k .byte) ≡ true) × (settingOf (settingToByte k .byte) ≡ k)
+of-setting k h =
+    let back = setting-back k (omega arith) in
+    let has = setting-laws .no-other (settingToByte k .byte) k (delay-laws .byte-is k h ∙ sym (ap (λ (byte : ℕ). record { refusal = 0; byte = byte }) (ap (λ a. a .byte) (delay-laws .byte-is k h)))) in
+    (has, ap (λ (a : DelaySetting). a .setting) (sym (setting-laws .setting-named (settingToByte k .byte) has .gives-setting) ∙ back .1))
+
+setting-written : fine.SettingWritten
+setting-written r number k e n h =
+    let byte = settingToByte k .byte in
+    let set = of-setting k h in
+    let can : NoSetting number byte → ⊥ = λ none. omega (arith, none .1, setting-laws .below-240 byte .0 (set .0)) in
+    let done = write-laws .byte-stored r number byte e (low number n) can in (
+      ap (λ (a : WriteAnswer). a .refusal) done,
+      ap (λ (a : WriteAnswer). settingOf (registerByte (a .receiver .core) number)) done
+          ∙ ap settingOf (store-laws .stored-back (r .core) number byte (low number n)) ∙ set .1,
+    )
+
+-- also of a refused answer, whose registers are all 0
+fresh-byte : (id i2c number : ℕ) → fine.DelayRegister number → registerByte (freshAnswer id i2c .receiver .core) number ≡ 0
+unfolding registerByte freshAnswer
+fresh-byte id i2c number n = at-register n
+  where
+    Zero : ℕ → FreshAnswer → Type 0
+    Zero at answer = registerByte (answer .receiver .core) at ≡ 0
+
+    at-register : fine.DelayRegister number → Zero number (freshAnswer id i2c)
+    at-register (inl z) = rw z (picked (Zero 0) (eqb id 0) refl (picked (Zero 0) (ltb 16383 id) refl (picked (Zero 0) (ltb 63 i2c) refl refl)))
+    at-register (inr z) = rw z (picked (Zero 1) (eqb id 0) refl (picked (Zero 1) (ltb 16383 id) refl (picked (Zero 1) (ltb 63 i2c) refl refl)))
+
+fresh-setting : fine.FreshSetting
+unfolding settingOf
+fresh-setting id i2c number e n = ap settingOf (fresh-byte id i2c number n)
+
+-- ---- frames
+
+-- what is 10 is no other verdict
+ten-not : {v n : ℕ} → v ≡ 10 → v ≡ n → (_≡_ {A = ℕ} 10 n → ⊥) → ⊥
+ten-not v z no-ten = no-ten (sym v ∙ z)
+
+not-executed : (v : ℕ) → v ≡ 10 → executed v ≡ false
+unfolding executed oneOf
+not-executed v e = rw e refl
+
+-- ---- all else is the idle list's
+
+clean-others : (idle done : CallResult) → done .answer .outputs .verdict ≡ 10 → OthersSame (rowMayChange (done .answer .outputs .verdict)) idle done
+    → OthersSame fine.tenMayChange idle done
+clean-others idle done ten o =
+    record {
+      refusal-same = o .refusal-same;
+      outputs-stand = o .outputs-stand;
+      byte-same = o .byte-same;
+      ids-same = o .ids-same;
+      settings-same = λ n. o .settings-same (⊎-elim (λ v. ten-not ten v (λ e. omega arith)) (λ v. ten-not ten v (λ e. omega arith)));
+      single-same = λ n. absurd (n tt);
+      double-same = λ n. o .double-same (λ v. ten-not ten v (λ e. omega arith));
+      status-same = λ n. absurd (n tt);
+      counters-same = λ n. o .counters-same (⊎-elim (λ v. ten-not ten v (λ e. omega arith)) (λ v. ten-not ten v (λ e. omega arith)));
+      sequence-same = λ n. o .sequence-same (λ v. ten-not ten v (λ e. omega arith));
+      held-same = o .held-same;
+    }
+
+flipped-others : (idle clean done : CallResult) → OthersSame fine.tenMayChange idle clean → OthersSame correctionMayChange clean done
+    → OthersSame fine.tenMayChange idle done
+flipped-others idle clean done o f =
+    record {
+      refusal-same = f .refusal-same ∙ o .refusal-same;
+      outputs-stand =
+          record {
+            trigger-stands = f .outputs-stand .trigger-stands ∙ o .outputs-stand .trigger-stands;
+            missed-stands = f .outputs-stand .missed-stands ∙ o .outputs-stand .missed-stands;
+            strobe-stands = f .outputs-stand .strobe-stands ∙ o .outputs-stand .strobe-stands;
+            number-stands = f .outputs-stand .number-stands ∙ o .outputs-stand .number-stands;
+          };
+      byte-same = f .byte-same ∙ o .byte-same;
+      ids-same = f .ids-same ∙ o .ids-same;
+      settings-same = λ n. f .settings-same n ∙ o .settings-same n;
+      single-same = λ n. absurd (n tt);
+      double-same = λ n. f .double-same n ∙ o .double-same n;
+      status-same = λ n. absurd (n tt);
+      counters-same = λ n. f .counters-same n ∙ o .counters-same n;
+      sequence-same = λ n. f .sequence-same n ∙ o .sequence-same n;
+      held-same = f .held-same ∙ o .held-same;
+    }
+
+-- ---- by demand 3
+
+module _ (fields : Fields) (own : Ids) (range : InRange Long fields) (none : fine.ForNoSetting fields (own .id)) where
+  clean-ten : (idle done : CallResult) → CleanLast Long fields own idle done
+      → fine.GetsTen fields idle done × (done .answer .outputs .corrected ≡ 0) × (done .receiver .core .errors .single ≡ idle .receiver .core .errors .single)
+  clean-ten idle done last =
+      let ten = last .verdict-of-row .row-10 (none .ours) (λ one. zero-not-one (sym (none .internal) ∙ one)) (none .no-setting) in (
+        record {
+          verdict-10 = ten;
+          not-executed = not-executed _ ten;
+          word-is = last .word-is;
+          nothing-stored = last .effect-of-row .nothing-stored ten;
+          status-1 = last .status-1;
+          others-same = clean-others idle done ten (last .others-same);
+        },
+        last .flag-0,
+        last .others-same .single-same (λ three. ten-not ten three (λ e. omega arith)),
+      )
+    where
+      zero-not-one : _≡_ {A = ℕ} 0 1 → ⊥
+      zero-not-one e = omega arith
+
+  one-flip-ten : (idle clean done : CallResult) → CleanLast Long fields own idle clean → CorrectedLast clean done
+      → fine.GetsTen fields idle done × (done .answer .outputs .corrected ≡ 1) × OneHigher 65535 (idle .receiver .core .errors .single) (done .receiver .core .errors .single)
+  one-flip-ten idle clean done last flipped =
+      let c = clean-ten idle clean last in
+      let ten = flipped .verdict-same ∙ c .0 .verdict-10 in (
+        record {
+          verdict-10 = ten;
+          not-executed = not-executed _ ten;
+          word-is = flipped .word-same ∙ c .0 .word-is;
+          nothing-stored = flipped .others-same .settings-same (λ z. z) ∙ c .0 .nothing-stored;
+          status-1 = flipped .others-same .status-same (λ z. z) ∙ c .0 .status-1;
+          others-same = flipped-others idle clean done (c .0 .others-same) (flipped .others-same);
+        },
+        flipped .flag-1,
+        subst (λ (single : ℕ). OneHigher 65535 single (done .receiver .core .errors .single)) (c .2)
+            (flipped .single-higher (λ three. ten-not (c .0 .verdict-10) three (λ e. omega arith))),
+      )
+
+-- ---- the theorem
+
+pub fine-delay-theorem : fine.FineDelayTheorem
+fine-delay-theorem columns good =
+    let d = demand3-theorem columns good in
+    record {
+      always-settings = λ r calls number e n. holds-setting (run columns r calls) number (d .stays-well-formed r calls e) n;
+      from-fresh = λ id i2c calls number e n.
+          holds-setting (run columns (freshAnswer id i2c .receiver) calls) number (d .stays-well-formed _ calls (fresh-laws .well-formed id i2c e)) n;
+      fresh-setting = fresh-setting;
+      setting-written = setting-written;
+      clean-ten = λ r before trigger bit fields range none s.
+          clean-ten fields (r .core .ids) range none _ _ (d .clean r before trigger bit Long fields range s .by-name);
+      one-flip-ten = λ r clean flipped trigger sent bit fields p range none protected s t same.
+          subst (λ (calls : List Call). OneFlip columns r calls flipped trigger bit fields) same
+          (one-flip-ten fields (r .core .ids) range none _ _ _ (d .clean r clean trigger sent Long fields range s .by-name)
+          (d .one-flip r clean flipped trigger sent bit Long fields p range protected s t same .by-name));
+    }
+  where
+    -- beside the idle list of these calls
+    OneFlip : (Kind → List ℕ) → Receiver → List Call → List Call → ℕ → ℕ → Fields → Type 0
+    OneFlip columns r idle-calls flipped trigger bit fields =
+        let idle = lastCall columns r idle-calls (clock trigger 1) in
+        let done = lastCall columns r flipped (clock trigger bit) in
+        fine.GetsTen fields idle done × (done .answer .outputs .corrected ≡ 1) × OneHigher 65535 (idle .receiver .core .errors .single) (done .receiver .core .errors .single)
+
+pub receiver-fine-delays : fine.ReceiverFineDelays
+receiver-fine-delays = fine-delay-theorem columnsOf tables-good
