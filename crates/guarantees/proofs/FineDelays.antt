@@ -1,7 +1,7 @@
 -- Registers 0 and 1 over lists of calls, and the frames with a byte without a setting. Assumes nothing.
 use Prim.Native.Nat.{ℕ, _<_, _≤_}
 use mathlib.Core.Path.{_≡_, refl, sym, ap, subst, _∙_}
-use mathlib.Core.Logic.{_⊎_, inl, inr, ⊎-elim}
+use mathlib.Core.Logic.{inl, inr, ⊎-elim}
 use mathlib.Core.Bool.{true, false}
 use mathlib.Core.List.{List}
 use native.Mathlib.Omega.{arith}
@@ -26,7 +26,7 @@ use Rattle.receiver_state.specs.WellFormed.{wellFormed}
 use Rattle.receiver_state.proofs.WellFormed.{receiver-facts}
 use Rattle.receiver_state.proofs.States.{fresh-laws}
 use Rattle.register_map.specs.Map.{inMap, registerByte}
-use Rattle.register_map.specs.Laws.{NoSetting}
+use Rattle.register_map.specs.Laws.{DelayRegister, NoSetting}
 use Rattle.register_map.proofs.Stored.{store-laws}
 use Rattle.registers.specs.declared.WriteAnswer.{WriteAnswer}
 use Rattle.registers.proofs.Laws.{read-laws, write-laws}
@@ -40,17 +40,17 @@ use Rattle.guarantees.proofs.Demand3.{demand3-theorem}
 
 -- ---- a well-formed state
 
-has-setting : (r : Receiver) (number : ℕ) → wellFormed r ≡ true → fine.DelayRegister number → hasSetting (registerByte (r .core) number) ≡ true
+has-setting : (r : Receiver) (number : ℕ) → wellFormed r ≡ true → DelayRegister number → hasSetting (registerByte (r .core) number) ≡ true
 unfolding registerByte
 has-setting r number e (inl n) = rw n (receiver-facts r e .of-core .of-settings .fine-1)
 has-setting r number e (inr n) = rw n (receiver-facts r e .of-core .of-settings .fine-2)
 
-in-map : (number : ℕ) → fine.DelayRegister number → inMap number ≡ true
+in-map : (number : ℕ) → DelayRegister number → inMap number ≡ true
 unfolding inMap oneOf
 in-map number (inl n) = rw n refl
 in-map number (inr n) = rw n refl
 
-holds-setting : (r : Receiver) (number : ℕ) → wellFormed r ≡ true → fine.DelayRegister number → fine.HoldsSetting r number
+holds-setting : (r : Receiver) (number : ℕ) → wellFormed r ≡ true → DelayRegister number → fine.HoldsSetting r number
 holds-setting r number e n =
     record {
       of-setting = setting-laws .setting-named (registerByte (r .core) number) (has-setting r number e n);
@@ -59,7 +59,7 @@ holds-setting r number e n =
 
 -- ---- a setting written
 
-low : (number : ℕ) → fine.DelayRegister number → number < 4
+low : (number : ℕ) → DelayRegister number → number < 4
 low number = ⊎-elim (λ n. omega arith) (λ n. omega arith)
 
 -- the byte of a setting has it
@@ -81,14 +81,14 @@ setting-written r number k e n h =
     )
 
 -- also of a refused answer, whose registers are all 0
-fresh-byte : (id i2c number : ℕ) → fine.DelayRegister number → registerByte (freshAnswer id i2c .receiver .core) number ≡ 0
+fresh-byte : (id i2c number : ℕ) → DelayRegister number → registerByte (freshAnswer id i2c .receiver .core) number ≡ 0
 unfolding registerByte freshAnswer
 fresh-byte id i2c number n = at-register n
   where
     Zero : ℕ → FreshAnswer → Type 0
     Zero at answer = registerByte (answer .receiver .core) at ≡ 0
 
-    at-register : fine.DelayRegister number → Zero number (freshAnswer id i2c)
+    at-register : DelayRegister number → Zero number (freshAnswer id i2c)
     at-register (inl z) = rw z (picked (Zero 0) (eqb id 0) refl (picked (Zero 0) (ltb 16383 id) refl (picked (Zero 0) (ltb 63 i2c) refl refl)))
     at-register (inr z) = rw z (picked (Zero 1) (eqb id 0) refl (picked (Zero 1) (ltb 16383 id) refl (picked (Zero 1) (ltb 63 i2c) refl refl)))
 
@@ -109,7 +109,7 @@ not-executed v e = rw e refl
 -- ---- all else is the idle list's
 
 clean-others : (idle done : CallResult) → done .answer .outputs .verdict ≡ 10 → OthersSame (rowMayChange (done .answer .outputs .verdict)) idle done
-    → OthersSame fine.tenMayChange idle done
+    → OthersSame fine.verdict10MayChange idle done
 clean-others idle done ten o =
     record {
       refusal-same = o .refusal-same;
@@ -125,8 +125,8 @@ clean-others idle done ten o =
       held-same = o .held-same;
     }
 
-flipped-others : (idle clean done : CallResult) → OthersSame fine.tenMayChange idle clean → OthersSame correctionMayChange clean done
-    → OthersSame fine.tenMayChange idle done
+flipped-others : (idle clean done : CallResult) → OthersSame fine.verdict10MayChange idle clean → OthersSame correctionMayChange clean done
+    → OthersSame fine.verdict10MayChange idle done
 flipped-others idle clean done o f =
     record {
       refusal-same = f .refusal-same ∙ o .refusal-same;
@@ -151,9 +151,9 @@ flipped-others idle clean done o f =
 -- ---- by demand 3
 
 module _ (fields : Fields) (own : Ids) (range : InRange Long fields) (none : fine.ForNoSetting fields (own .id)) where
-  clean-ten : (idle done : CallResult) → CleanLast Long fields own idle done
-      → fine.GetsTen fields idle done × (done .answer .outputs .corrected ≡ 0) × (done .receiver .core .errors .single ≡ idle .receiver .core .errors .single)
-  clean-ten idle done last =
+  clean-10 : (idle done : CallResult) → CleanLast Long fields own idle done
+      → fine.GetsVerdict10 fields idle done × (done .answer .outputs .corrected ≡ 0) × (done .receiver .core .errors .single ≡ idle .receiver .core .errors .single)
+  clean-10 idle done last =
       let ten = last .verdict-of-row .row-10 (none .ours) (λ one. zero-not-one (sym (none .internal) ∙ one)) (none .no-setting) in (
         record {
           verdict-10 = ten;
@@ -170,10 +170,10 @@ module _ (fields : Fields) (own : Ids) (range : InRange Long fields) (none : fin
       zero-not-one : _≡_ {A = ℕ} 0 1 → ⊥
       zero-not-one e = omega arith
 
-  one-flip-ten : (idle clean done : CallResult) → CleanLast Long fields own idle clean → CorrectedLast clean done
-      → fine.GetsTen fields idle done × (done .answer .outputs .corrected ≡ 1) × OneHigher 65535 (idle .receiver .core .errors .single) (done .receiver .core .errors .single)
-  one-flip-ten idle clean done last flipped =
-      let c = clean-ten idle clean last in
+  one-flip-10 : (idle clean done : CallResult) → CleanLast Long fields own idle clean → CorrectedLast clean done
+      → fine.GetsVerdict10 fields idle done × (done .answer .outputs .corrected ≡ 1) × OneHigher 65535 (idle .receiver .core .errors .single) (done .receiver .core .errors .single)
+  one-flip-10 idle clean done last flipped =
+      let c = clean-10 idle clean last in
       let ten = flipped .verdict-same ∙ c .0 .verdict-10 in (
         record {
           verdict-10 = ten;
@@ -199,11 +199,11 @@ fine-delay-theorem columns good =
           holds-setting (run columns (freshAnswer id i2c .receiver) calls) number (d .stays-well-formed _ calls (fresh-laws .well-formed id i2c e)) n;
       fresh-setting = fresh-setting;
       setting-written = setting-written;
-      clean-ten = λ r before trigger bit fields range none s.
-          clean-ten fields (r .core .ids) range none _ _ (d .clean r before trigger bit Long fields range s .by-name);
-      one-flip-ten = λ r clean flipped trigger sent bit fields p range none protected s t same.
+      clean-10 = λ r before trigger bit fields range none s.
+          clean-10 fields (r .core .ids) range none _ _ (d .clean r before trigger bit Long fields range s .by-name);
+      one-flip-10 = λ r clean flipped trigger sent bit fields p range none protected s t same.
           subst (λ (calls : List Call). OneFlip columns r calls flipped trigger bit fields) same
-          (one-flip-ten fields (r .core .ids) range none _ _ _ (d .clean r clean trigger sent Long fields range s .by-name)
+          (one-flip-10 fields (r .core .ids) range none _ _ _ (d .clean r clean trigger sent Long fields range s .by-name)
           (d .one-flip r clean flipped trigger sent bit Long fields p range protected s t same .by-name));
     }
   where
@@ -212,7 +212,7 @@ fine-delay-theorem columns good =
     OneFlip columns r idle-calls flipped trigger bit fields =
         let idle = lastCall columns r idle-calls (clock trigger 1) in
         let done = lastCall columns r flipped (clock trigger bit) in
-        fine.GetsTen fields idle done × (done .answer .outputs .corrected ≡ 1) × OneHigher 65535 (idle .receiver .core .errors .single) (done .receiver .core .errors .single)
+        fine.GetsVerdict10 fields idle done × (done .answer .outputs .corrected ≡ 1) × OneHigher 65535 (idle .receiver .core .errors .single) (done .receiver .core .errors .single)
 
 pub receiver-fine-delays : fine.ReceiverFineDelays
 receiver-fine-delays = fine-delay-theorem columnsOf tables-good

@@ -2,7 +2,6 @@
 -- without a setting. Proved in proofs/FineDelays.antt.
 use Prim.Native.Nat.{ℕ, _≤_}
 use mathlib.Core.Path.{_≡_}
-use mathlib.Core.Logic.{_⊎_}
 use mathlib.Core.Bool.{true, false}
 use mathlib.Core.List.{List}
 use Rattle.hamming.specs.declared.WrongBit.{WrongBit}
@@ -18,6 +17,7 @@ use Rattle.receiver_state.specs.declared.Receiver.{Receiver}
 use Rattle.receiver_state.specs.State.{freshAnswer}
 use Rattle.receiver_state.specs.WellFormed.{wellFormed}
 use Rattle.register_map.specs.Map.{registerByte}
+use Rattle.register_map.specs.Laws.{DelayRegister}
 use Rattle.registers.specs.Access.{byteAnswer, readAnswer, writeAnswer}
 use Rattle.verdicts.specs.Table.{executed}
 use Rattle.verdicts.specs.FrameLaws.{Ours, DataWithoutSetting, OneHigher}
@@ -26,9 +26,6 @@ use Rattle.guarantees.specs.FrameLists.{Sends, SameCalls, lastCall}
 use Rattle.guarantees.specs.LastClock.{MayChange, OthersSame}
 
 -- ---- what registers 0 and 1 hold
-
-abbrev pub DelayRegister : ℕ → Type 0
-DelayRegister number = (number ≡ 0) ⊎ (number ≡ 1)
 
 -- the setting of the byte that the register holds, "K = (15m + 16n + 30) mod 240"
 abbrev pub settingIn : Receiver → ℕ → ℕ
@@ -59,17 +56,17 @@ pub record ForNoSetting (fields : Fields) (id : ℕ) : Type 0 where
   pub no-setting : DataWithoutSetting fields
 
 -- beside the idle list: status bit 5, and with a correction the single error counter
-abbrev pub tenMayChange : MayChange
-tenMayChange = record { settings = ⊥; single = Unit {0}; double = ⊥; status = Unit {0}; counters = ⊥; sequence = ⊥ }
+abbrev pub verdict10MayChange : MayChange
+verdict10MayChange = record { settings = ⊥; single = Unit {0}; double = ⊥; status = Unit {0}; counters = ⊥; sequence = ⊥ }
 
 -- its last clock, beside the idle list's: "the new verdict 10 ..: nothing stored, .. not counted as executed"
-pub record GetsTen (fields : Fields) (idle done : CallResult) : Type 0 where
+pub record GetsVerdict10 (fields : Fields) (idle done : CallResult) : Type 0 where
   pub verdict-10 : done .answer .outputs .verdict ≡ 10
   pub not-executed : executed (done .answer .outputs .verdict) ≡ false
   pub word-is : done .answer .outputs .word ≡ wordOf Long fields
   pub nothing-stored : done .receiver .core .settings ≡ idle .receiver .core .settings
   pub status-1 : done .receiver .core .errors .status5 ≡ 1
-  pub others-same : OthersSame tenMayChange idle done
+  pub others-same : OthersSame verdict10MayChange idle done
 
 module _ (columns : Kind → List ℕ) where
   -- ---- the statements
@@ -91,25 +88,25 @@ module _ (columns : Kind → List ℕ) where
   idleLast r before trigger = lastCall columns r (idle before) (clock trigger 1)
 
   -- a clean frame: flag 0, and the single error counter stays
-  abbrev pub CleanTen : Type 0
-  CleanTen =
+  abbrev pub CleanVerdict10 : Type 0
+  CleanVerdict10 =
       (r : Receiver) (before : List Call) (trigger bit : ℕ) (fields : Fields) → InRange Long fields → ForNoSetting fields (r .core .ids .id)
       → Sends r before trigger bit Long (encoded fields)
       → let done = lastCall columns r before (clock trigger bit) in
-      GetsTen fields (idleLast r before trigger) done
+      GetsVerdict10 fields (idleLast r before trigger) done
       × (done .answer .outputs .corrected ≡ 0)
       × (done .receiver .core .errors .single ≡ idleLast r before trigger .receiver .core .errors .single)
 
   -- one protected bit flipped: flag 1, and "corrected flag and single counter as for verdict 2". The corrected data decide: p may be one of their bits.
-  abbrev pub OneFlipTen : Type 0
-  OneFlipTen =
+  abbrev pub OneFlipVerdict10 : Type 0
+  OneFlipVerdict10 =
       (r : Receiver) (clean flipped : List Call) (trigger sent bit : ℕ) (fields : Fields) (p : WrongBit)
       → InRange Long fields → ForNoSetting fields (r .core .ids .id) → ProtectedIn Long p
       → Sends r clean trigger sent Long (encoded fields)
       → Sends r flipped trigger bit Long (flipProtected Long p (encoded fields))
       → SameCalls clean flipped
       → let done = lastCall columns r flipped (clock trigger bit) in
-      GetsTen fields (idleLast r flipped trigger) done
+      GetsVerdict10 fields (idleLast r flipped trigger) done
       × (done .answer .outputs .corrected ≡ 1)
       × OneHigher 65535 (idleLast r flipped trigger .receiver .core .errors .single) (done .receiver .core .errors .single)
 
@@ -118,8 +115,8 @@ module _ (columns : Kind → List ℕ) where
     pub from-fresh : SettingsFromFresh
     pub fresh-setting : FreshSetting
     pub setting-written : SettingWritten
-    pub clean-ten : CleanTen
-    pub one-flip-ten : OneFlipTen
+    pub clean-10 : CleanVerdict10
+    pub one-flip-10 : OneFlipVerdict10
 
 abbrev pub FineDelayTheorem : Type 0
 FineDelayTheorem = (columns : Kind → List ℕ) → GoodTables columns → FineDelayLaws columns

@@ -46,9 +46,13 @@ pub record ByteLaws : Type 0 where
 
 -- ---- bytes without a setting
 
+-- those of the "fine delays"
+abbrev pub DelayRegister : ℕ → Type 0
+DelayRegister number = (number ≡ 0) ⊎ (number ≡ 1)
+
 -- document 02, Q-4: "240 to 255 to registers 0 or 1"
 abbrev pub NoSetting : ℕ → ℕ → Type 0
-NoSetting number byte = ((number ≡ 0) ⊎ (number ≡ 1)) × (240 ≤ byte)
+NoSetting number byte = DelayRegister number × (240 ≤ byte)
 
 abbrev pub WithoutSettingLaw : Type 0
 WithoutSettingLaw = (number byte : ℕ) → (withoutSetting number byte ≡ true) ↔ NoSetting number byte

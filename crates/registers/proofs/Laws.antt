@@ -1,6 +1,6 @@
 -- What holds of every register read and every register write. Assumes nothing.
 use mathlib.Core.Path.{_≡_, refl, sym, ap, _∙_}
-use mathlib.Core.Logic.{_≢_, _⊎_, inl, inr, ⊎-elim}
+use mathlib.Core.Logic.{_≢_, inl, inr, ⊎-elim}
 use mathlib.Core.Bool.{Bool, true, false, cond, false≢true}
 use Prim.Native.Nat.{ℕ, _%_, _^_, _<_}
 use borrow.Author.Tests.{ne-eqb}
@@ -14,7 +14,7 @@ use Rattle.receiver_state.specs.WellFormed.{wellFormed}
 use Rattle.receiver_state.proofs.WellFormed.{receiver-facts, receiver-ok}
 use Rattle.register_map.specs.Map.{inMap, registerByte, readOnly, withoutSetting, configWrong}
 use Rattle.register_map.specs.Change.{stored, afterWrite}
-use Rattle.register_map.specs.Laws.{NoSetting}
+use Rattle.register_map.specs.Laws.{DelayRegister, NoSetting}
 use Rattle.register_map.proofs.Laws.{without-setting-law}
 use Rattle.register_map.proofs.Keep.{write-keeps, write-changes}
 use Rattle.register_map.proofs.Stored.{below-4, store-laws}
@@ -94,7 +94,7 @@ refused-17 r number value e h = at-register (h .0)
     w : withoutSetting number value ≡ true
     w = without-setting-law number value .1 h
 
-    at-register : (number ≡ 0) ⊎ (number ≡ 1) → writeAnswer r number value ≡ refusedWrite 17 r
+    at-register : DelayRegister number → writeAnswer r number value ≡ refusedWrite 17 r
     at-register (inl n) = rw (e, w, n) refl
     at-register (inr n) = rw (e, w, n) refl
 
