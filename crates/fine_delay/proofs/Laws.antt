@@ -1,6 +1,6 @@
 -- The refusals of settings and bytes, by the one test of each definition, and which bytes have a setting. Assumes nothing.
 use Prim.Native.Nat.{ℕ, _≤_, _<_}
-use mathlib.Core.Path.{_≡_, refl, sym, ap, _∙_}
+use mathlib.Core.Path.{_≡_, sym, ap, _∙_}
 use mathlib.Core.Bool.{true, false}
 use borrow.Author.Tests.{lt-ltb, le-ltb, ltb-true, ltb-false}
 use native.Mathlib.Omega.{arith}
@@ -8,8 +8,8 @@ use Rattle.laws.proofs.Rules.{by-test}
 use lib.Dec.{ltb}
 use Rattle.fine_delay.specs.declared.DelayByte.{DelayByte}
 use Rattle.fine_delay.specs.declared.DelaySetting.{DelaySetting}
-use Rattle.fine_delay.specs.Delay.{byteOf, settingOf, hasSetting, settingToByte, byteToSetting}
-use Rattle.fine_delay.specs.Laws.{DelayLaws, IsByteOf, SettingLaws}
+use Rattle.fine_delay.specs.Delay.{byteOf, hasSetting, settingToByte, byteToSetting}
+use Rattle.fine_delay.specs.Laws.{DelayLaws, SettingLaws}
 use Rattle.fine_delay.proofs.Inverse.{byte-answer, setting-answer, byte-below, byte-back}
 
 refused-9 : (byte : ℕ) → 239 < byte → byteToSetting byte ≡ record { refusal = 9; setting = 0 }

@@ -1,12 +1,14 @@
 -- A change of the register map keeps the core well formed. Assumes nothing.
-use mathlib.Core.Path.{_≡_}
-use mathlib.Core.Bool.{true, false, cond}
-use Prim.Native.Nat.{ℕ, _%_, _^_, _<_}
+use mathlib.Core.Path.{_≡_, refl, sym, subst, _∙_}
+use mathlib.Core.Logic.{inl, inr}
+use mathlib.Core.Bool.{true, false, cond, true≢false}
+use Prim.Native.Nat.{ℕ, _%_, _^_}
 use native.Mathlib.Omega.{arith}
-use borrow.Author.Tests.{eqb-true, lt-ltb, not-false}
+use borrow.Author.Tests.{eqb-true, not-false}
 use lib.Dec.{eqb, ltb}
-use Rattle.laws.proofs.Rules.{picked, picked-by}
+use Rattle.laws.proofs.Rules.{picked, picked-by, by-test}
 use Rattle.fine_delay.specs.Delay.{hasSetting}
+use Rattle.fine_delay.proofs.Laws.{setting-laws}
 use Rattle.receiver_state.specs.declared.Settings.{Settings}
 use Rattle.receiver_state.specs.declared.Errors.{Errors}
 use Rattle.receiver_state.specs.declared.Counters.{Counters}
@@ -16,14 +18,17 @@ use Rattle.receiver_state.specs.WellFormed.{configOk, SettingsFacts, CoreFacts}
 use Rattle.receiver_state.proofs.Changes.{settings-changed, errors-changed, counters-changed}
 use Rattle.register_map.specs.Map.{withoutSetting, configWrong}
 use Rattle.register_map.specs.Change.{stored, storeByte, withConfigs, clearBunch, clearEvent, afterWrite}
-use Rattle.register_map.specs.Laws.{KeepLaws}
+use Rattle.register_map.specs.Laws.{DelayRegister, KeepLaws}
+use Rattle.register_map.proofs.Laws.{without-setting-law}
 
 -- register 0 or 1, if the byte goes there: it belongs to a setting, as the one before did
-fine-keeps : (number byte at now : ℕ) → at < 2 → withoutSetting number byte ≡ false → hasSetting now ≡ true → hasSetting (cond (eqb number at) byte now) ≡ true
-unfolding withoutSetting
-fine-keeps number byte at now h w before =
+fine-keeps : (number byte at now : ℕ) → DelayRegister at → withoutSetting number byte ≡ false → hasSetting now ≡ true
+    → hasSetting (cond (eqb number at) byte now) ≡ true
+fine-keeps number byte at now d w before =
     picked-by (λ (held : ℕ). hasSetting held ≡ true) (eqb number at)
-    (λ t. let low : number < 2 = rw (eqb-true number at t) h in not-false (hasSetting byte) (rw (lt-ltb number 2 low) at w))
+    (λ t. by-test (hasSetting byte) (λ has. has)
+    (λ none. let register : DelayRegister number = subst DelayRegister (sym (eqb-true number at t)) d in
+    absurd (true≢false (sym (without-setting-law number byte .1 (register, setting-laws .from-240 byte .0 none)) ∙ w))))
     (λ t. before)
 
 pub store-keeps : (number byte : ℕ) (core : Core) → withoutSetting number byte ≡ false → CoreFacts core → CoreFacts (storeByte number byte core)
@@ -31,8 +36,8 @@ unfolding stored
 store-keeps number byte core w f =
     settings-changed _ core
     (record {
-      fine-1 = fine-keeps number byte 0 _ (omega arith) w (f .of-settings .fine-1);
-      fine-2 = fine-keeps number byte 1 _ (omega arith) w (f .of-settings .fine-2);
+      fine-1 = fine-keeps number byte 0 _ (inl refl) w (f .of-settings .fine-1);
+      fine-2 = fine-keeps number byte 1 _ (inr refl) w (f .of-settings .fine-2);
       config-2 = f .of-settings .config-2;
       config-3 = f .of-settings .config-3;
     })

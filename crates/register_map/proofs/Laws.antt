@@ -6,9 +6,10 @@ use mathlib.Core.List.{List, [], _∷_}
 use Prim.Native.Nat.{ℕ, zero, suc, _+_, _*_, _/_, _%_, _^_, _<_, _≤_}
 use native.Mathlib.Omega.{arith}
 use native.Mathlib.Nat.{mod-lt}
-use borrow.Author.Tests.{ne-eqb, not-true, ltb-true, le-ltb}
+use borrow.Author.Tests.{ne-eqb, not-true, ltb-true}
 use lib.Dec.{ltb, lit<}
 use Rattle.laws.specs.OneOf.{oneOf}
+use Rattle.laws.proofs.Rules.{picked-by}
 use Rattle.laws.proofs.Below.{below}
 use Rattle.laws.proofs.Tests.{both}
 use Rattle.fine_delay.specs.Delay.{hasSetting}
@@ -16,7 +17,7 @@ use Rattle.fine_delay.proofs.Laws.{setting-laws}
 use Rattle.receiver_state.specs.declared.Core.{Core}
 use Rattle.register_map.specs.Map.{mapNumbers, inMap, registerByte, withoutSetting}
 use Rattle.register_map.specs.Change.{clearBunch, clearEvent}
-use Rattle.register_map.specs.Laws.{gaps, MapLaws, ByteLaws, NoSetting, WithoutSettingLaw, ClearLaws}
+use Rattle.register_map.specs.Laws.{gaps, MapLaws, ByteLaws, DelayRegister, NoSetting, WithoutSettingLaw, ClearLaws}
 
 -- ---- the numbers of the map
 
@@ -46,11 +47,22 @@ map-laws =
 
 -- ---- bytes without a setting
 
+-- a number below another, and one test more
+both-hold : (number top : ℕ) (rest : Bool) → cond (ltb number top) rest false ≡ true → (number < top) × (rest ≡ true)
+both-hold number top rest =
+    picked-by (λ (b : Bool). b ≡ true → (number < top) × (rest ≡ true)) (ltb number top)
+    (λ low e. (ltb-true number top low, e)) (λ high e. absurd (false≢true e))
+
+below-2 : (number : ℕ) → number < 2 → DelayRegister number
+below-2 zero h = inl refl
+below-2 (suc zero) h = inr refl
+below-2 (suc (suc number)) h = absurd (omega arith)
+
 no-setting : (number byte : ℕ) → withoutSetting number byte ≡ true → NoSetting number byte
 unfolding withoutSetting
-no-setting zero byte e = (inl refl, setting-laws .from-240 byte .0 (not-true (hasSetting byte) e))
-no-setting (suc zero) byte e = (inr refl, setting-laws .from-240 byte .0 (not-true (hasSetting byte) e))
-no-setting (suc (suc number)) byte e = absurd (false≢true (rw (le-ltb (suc (suc number)) 2 (omega arith)) at e))
+no-setting number byte e =
+    let b = both-hold number _ _ e in
+    (below-2 number (b .0), setting-laws .from-240 byte .0 (not-true (hasSetting byte) (b .1)))
 
 is-without : (number byte : ℕ) → NoSetting number byte → withoutSetting number byte ≡ true
 unfolding withoutSetting

@@ -1,9 +1,9 @@
 -- What holds of every register read and every register write. Assumes nothing.
 use mathlib.Core.Path.{_≡_, refl, sym, ap, _∙_}
 use mathlib.Core.Logic.{_≢_, inl, inr, ⊎-elim}
-use mathlib.Core.Bool.{Bool, true, false, cond, false≢true}
+use mathlib.Core.Bool.{true, false}
 use Prim.Native.Nat.{ℕ, _%_, _^_, _<_}
-use borrow.Author.Tests.{ne-eqb}
+use borrow.Author.Tests.{ne-eqb, eqb-true}
 use lib.Dec.{eqb}
 use Rattle.laws.specs.OneOf.{oneOf}
 use Rattle.laws.proofs.Rules.{picked, picked-by, by-test}
@@ -21,6 +21,7 @@ use Rattle.register_map.proofs.Stored.{below-4, store-laws}
 use Rattle.registers.specs.declared.WriteAnswer.{WriteAnswer}
 use Rattle.registers.specs.Access.{byteAnswer, readRefusal, readAnswer, writeRefusal, writtenTo, refusedWrite, writeAnswer}
 use Rattle.registers.specs.Laws.{ReadLaws, SingleByte, BunchByte, EventByte, readAfter, ReadOnly, WriteLaws, ReadBack}
+use Rattle.registers.proofs.WriteRefusal.{gave}
 
 -- ---- reads
 
@@ -38,24 +39,12 @@ read-laws =
 abbrev Well : WriteAnswer → Type 0
 Well done = wellFormed (done .receiver) ≡ true
 
--- a write that is not refused has a byte that may stand in the register
-accepted-byte : (number value : ℕ) → eqb (writeRefusal number value) 0 ≡ true → (withoutSetting number value ≡ false) × (configWrong number value ≡ false)
-unfolding writeRefusal
-accepted-byte number value e = last-tests (inMap number) (readOnly number) (withoutSetting number value) (configWrong number value) e
-  where
-    last-tests : (a b c d : Bool) → eqb (cond a (cond b 6 (cond c 17 (cond d 7 0))) 5) 0 ≡ true → (c ≡ false) × (d ≡ false)
-    last-tests true true c d e = absurd (false≢true e)
-    last-tests true false true d e = absurd (false≢true e)
-    last-tests true false false true e = absurd (false≢true e)
-    last-tests true false false false e = (refl, refl)
-    last-tests false b c d e = absurd (false≢true e)
-
 stays : (r : Receiver) (number value : ℕ) → wellFormed r ≡ true → wellFormed (writeAnswer r number value .receiver) ≡ true
 unfolding writeAnswer
 stays r number value e =
     picked-by Well (wellFormed r)
     (λ t. picked-by Well (eqb (writeRefusal number value) 0)
-    (λ a. let may = accepted-byte number value a in
+    (λ a. let may = gave number value .none (eqb-true (writeRefusal number value) 0 a) in
     receiver-ok _ (record { of-core = write-keeps (r .core) number value (may .0) (may .1) (receiver-facts r e .of-core); of-held = receiver-facts r e .of-held }))
     (λ a. e))
     (λ t. e)

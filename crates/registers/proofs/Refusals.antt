@@ -1,21 +1,21 @@
 -- Which write is refused by which number. Assumes nothing.
 use mathlib.Core.Path.{_≡_, refl, sym, ap, _∙_}
-use mathlib.Core.Logic.{_≢_, _⊎_, _↔_, inl, inr, ⊎-elim}
-use mathlib.Core.Bool.{Bool, true, false, cond, not, true≢false}
-use Prim.Native.Nat.{ℕ, _%_, _^_}
+use mathlib.Core.Logic.{_≢_, _⊎_, inl, inr, ⊎-elim}
+use mathlib.Core.Bool.{true, true≢false}
+use Prim.Native.Nat.{ℕ}
 use native.Mathlib.Omega.{arith}
-use borrow.Author.Tests.{eq-eqb, eqb-true, eqb-false, not-true}
+use borrow.Author.Tests.{eqb-true, eqb-false, not-true}
 use lib.Dec.{eqb}
 use Rattle.laws.specs.OneOf.{oneOf}
 use Rattle.laws.proofs.Rules.{picked-by, by-test}
 use Rattle.receiver_state.specs.declared.Receiver.{Receiver}
 use Rattle.receiver_state.specs.WellFormed.{configOk, wellFormed}
-use Rattle.register_map.specs.Map.{inMap, readOnly, withoutSetting, configWrong}
-use Rattle.register_map.specs.Laws.{NoSetting}
+use Rattle.register_map.specs.Map.{readOnly, configWrong}
 use Rattle.register_map.proofs.Laws.{without-setting-law}
 use Rattle.registers.specs.declared.WriteAnswer.{WriteAnswer}
 use Rattle.registers.specs.Access.{writeRefusal, refusedWrite, writeAnswer}
 use Rattle.registers.specs.Laws.{ReadOnly, ConfigDiffers, WriteRefusals}
+use Rattle.registers.proofs.WriteRefusal.{gave}
 use Rattle.registers.proofs.Laws.{write-laws}
 
 abbrev refusal : Receiver → ℕ → ℕ → ℕ
@@ -51,35 +51,6 @@ config-differs number value e =
     (λ t. by-test (eqb number 21) (λ u. inr (eqb-true number 21 u, eqb-false _ _ (not-true (configOk 0xA7 value) (rw (t, u) at e))))
     (λ u. absurd (true≢false (sym e ∙ rw (t, u) refl))))
 
--- ---- the test that gave the number
-
--- the answer of four tests in a row, the first of which is refused where it fails
-abbrev chain : Bool → Bool → Bool → Bool → ℕ
-chain a b c d = cond a (cond b 6 (cond c 17 (cond d 7 0))) 5
-
-record Gave (a b c d : Bool) (n : ℕ) : Type 0 where
-  five : n ≡ 5 → a ≡ false
-  six : n ≡ 6 → b ≡ true
-  seventeen : n ≡ 17 → c ≡ true
-  seven : n ≡ 7 → d ≡ true
-  no-other : (n ≡ 0) ⊎ ((n ≡ 2) ⊎ ((n ≡ 5) ⊎ ((n ≡ 6) ⊎ ((n ≡ 17) ⊎ (n ≡ 7)))))
-
-gave : (a b c d : Bool) → Gave a b c d (chain a b c d)
-gave false b c d =
-    record { five = λ e. refl; six = λ e. absurd (omega arith); seventeen = λ e. absurd (omega arith); seven = λ e. absurd (omega arith); no-other = inr (inr (inl refl)) }
-gave true true c d =
-    record { five = λ e. absurd (omega arith); six = λ e. refl; seventeen = λ e. absurd (omega arith); seven = λ e. absurd (omega arith); no-other = inr (inr (inr (inl refl))) }
-gave true false true d =
-    record { five = λ e. absurd (omega arith); six = λ e. absurd (omega arith); seventeen = λ e. refl; seven = λ e. absurd (omega arith); no-other = inr (inr (inr (inr (inl refl)))) }
-gave true false false true =
-    record { five = λ e. absurd (omega arith); six = λ e. absurd (omega arith); seventeen = λ e. absurd (omega arith); seven = λ e. refl; no-other = inr (inr (inr (inr (inr refl)))) }
-gave true false false false =
-    record { five = λ e. absurd (omega arith); six = λ e. absurd (omega arith); seventeen = λ e. absurd (omega arith); seven = λ e. absurd (omega arith); no-other = inl refl }
-
-given : (number value : ℕ) → Gave (inMap number) (readOnly number) (withoutSetting number value) (configWrong number value) (writeRefusal number value)
-unfolding writeRefusal
-given number value = gave (inMap number) (readOnly number) (withoutSetting number value) (configWrong number value)
-
 -- ---- the law
 
 module _ (r : Receiver) (number value : ℕ) where
@@ -89,20 +60,12 @@ module _ (r : Receiver) (number value : ℕ) where
   no-other : (refusal r number value ≡ 0) ⊎ ((refusal r number value ≡ 2) ⊎ ((refusal r number value ≡ 5) ⊎ ((refusal r number value ≡ 6) ⊎ ((refusal r number value ≡ 17) ⊎ (refusal r number value ≡ 7)))))
   no-other =
       by-test (wellFormed r)
-      (λ e. rw (by-arguments r number value e) (given number value .no-other))
+      (λ e. rw (by-arguments r number value e) (gave number value .no-other))
       (λ e. inr (inl (refused 2 (write-laws .refused-by-2 r number value e))))
 
   -- 2 is none of the others
   not-2 : wellFormed r ≡ true → refusal r number value ≢ 2
-  unfolding writeRefusal
-  not-2 e = rw (by-arguments r number value e) (never (inMap number) (readOnly number) (withoutSetting number value) (configWrong number value))
-    where
-      never : (a b c d : Bool) → chain a b c d ≢ 2
-      never false b c d = λ z. omega arith
-      never true true c d = λ z. omega arith
-      never true false true d = λ z. omega arith
-      never true false false true = λ z. omega arith
-      never true false false false = λ z. omega arith
+  not-2 e = rw (by-arguments r number value e) (gave number value .not-two)
 
 pub write-refusals : WriteRefusals
 write-refusals =
@@ -112,19 +75,19 @@ write-refusals =
         λ e. refused r number value 2 (write-laws .refused-by-2 r number value e),
       );
       by-5 = λ r number value e. (
-        λ n. given number value .five (sym (by-arguments r number value e) ∙ n),
+        λ n. gave number value .five (sym (by-arguments r number value e) ∙ n),
         λ h. refused r number value 5 (write-laws .refused-by-5 r number value e h),
       );
       by-6 = λ r number value e. (
-        λ n. is-read-only number (given number value .six (sym (by-arguments r number value e) ∙ n)),
+        λ n. is-read-only number (gave number value .six (sym (by-arguments r number value e) ∙ n)),
         λ h. refused r number value 6 (write-laws .refused-by-6 r number value e h),
       );
       by-17 = λ r number value e. (
-        λ n. without-setting-law number value .0 (given number value .seventeen (sym (by-arguments r number value e) ∙ n)),
+        λ n. without-setting-law number value .0 (gave number value .seventeen (sym (by-arguments r number value e) ∙ n)),
         λ h. refused r number value 17 (write-laws .refused-by-17 r number value e h),
       );
       by-7 = λ r number value e. (
-        λ n. config-differs number value (given number value .seven (sym (by-arguments r number value e) ∙ n)),
+        λ n. config-differs number value (gave number value .seven (sym (by-arguments r number value e) ∙ n)),
         λ h. refused r number value 7 (write-laws .refused-by-7 r number value e h),
       );
       by-no-other = no-other;
