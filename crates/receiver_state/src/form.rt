@@ -33,7 +33,10 @@ fn settings_ok(settings: Settings) -> bool
     if !has_setting(settings.fine2) {
         return false;
     }
-    settings.config2 % 0x80 == 0x05 && settings.config3 % 0x80 == 0x27
+    if settings.config2 % 0x80 != 0x05 {
+        return false;
+    }
+    settings.config3 % 0x80 == 0x27
 }
 
 fn counters_ok(counters: Counters) -> bool

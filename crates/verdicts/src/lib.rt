@@ -148,12 +148,9 @@ fn row_effect(chosen: LongRow, fields: Fields, core: Core) -> Core
     ensures { λ r. ⌜ r ≡ rowEffect chosen fields core ⌝ }
 {
     match chosen {
-        LongRow::Foreign => core,
-        LongRow::Outside => core,
-        LongRow::WithoutSetting => core,
         LongRow::Store => store_byte(fields.sub, fields.data, core),
         LongRow::Reset => fresh_core(core.ids),
-        LongRow::Other => core,
+        _ => core,
     }
 }
 
