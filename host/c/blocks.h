@@ -135,6 +135,23 @@ static void check_ones_in_blocks(void)
     CHECK(outcome_is(run(&receiver, 2), TTCRX_ACCEPTED, 0) && held_is(receiver, 0, 41, 0));
 }
 
+/* Data F3 for a fine delay, clean, then with a wrong bit and a trigger: records with verdict 10, and
+   nothing stored. */
+static void check_delays_in_blocks(void)
+{
+    const uint32_t code = TTCRX_VERDICT_NO_SETTING | TTCRX_CODE_CORRECTED | TTCRX_CODE_TRIGGER;
+    ttcrx_receiver receiver = fresh_5;
+    put_frame(block, 42, DELAY_F3);
+    put_frame(block + 42, 42, DELAY_F3 ^ 0x1000);
+    block[83] |= 1;
+    unwrite();
+    CHECK(outcome_is(run(&receiver, 84), TTCRX_ACCEPTED, 2));
+    CHECK(record_is(&records[0], 41, 41, 0, TTCRX_VERDICT_NO_SETTING, DELAY_F3_WORD));
+    CHECK(record_is(&records[1], 83, 83, 0, code, DELAY_F3_WORD));
+    CHECK(only_records(2) && receiver.core.settings.fine1 == 0);
+    CHECK(receiver.core.errors.single_errors == 1 && held_is(receiver, 0, 0, 0));
+}
+
 /* The longest block, with a record for every clock. */
 static void check_full_block(void)
 {
@@ -173,6 +190,8 @@ static void check_refused_blocks(void)
     CHECK(refused_by(TTCRX_REFUSED_STATE, ill_formed, MOST, 0));
     CHECK(refused_by(TTCRX_REFUSED_STATE, keeping(0, 42), MOST, 0));
     CHECK(refused_by(TTCRX_REFUSED_STATE, keeping(1, 1), MOST, 0));
+    CHECK(refused_by(TTCRX_REFUSED_STATE, delaying(240, 0), MOST, 0));
+    CHECK(refused_by(TTCRX_REFUSED_STATE, delaying(0, 255), 1, NUMBERS(1)));
     CHECK(refused_by(TTCRX_REFUSED_BLOCK_LENGTH, fresh_5, MOST, 0));
     CHECK(refused_by(TTCRX_REFUSED_RECORD_BUFFER, fresh_5, 3, NUMBERS(3) - 1));
     CHECK(refused_by(TTCRX_REFUSED_BIT, fresh_5, 3, NUMBERS(3)));
@@ -209,6 +228,7 @@ static void check_blocks(void)
     check_triggers_in_blocks();
     check_frames_in_blocks();
     check_ones_in_blocks();
+    check_delays_in_blocks();
     check_full_block();
     check_refused_blocks();
     check_empty_blocks();

@@ -28,11 +28,13 @@ static void check(int holds, const char *what, const char *file, int line)
 #define CHECK(holds) check((holds), #holds, __FILE__, __LINE__)
 
 /* Frames of document 01: data 35 for register 2 of ID 5, and RESET of ID 5; the broadcast of 01, and
-   the same with stop bit 0. */
+   the same with stop bit 0. Data F3, which belong to no fine delay setting, for register 0 of ID 5. */
 #define WRITE_35 UINT64_C(0x100150235AD)
 #define WRITE_35_WORD 0x00150235
 #define RESET_5 UINT64_C(0x100150600F3)
 #define RESET_5_WORD 0x00150600
+#define DELAY_F3 UINT64_C(0x1001500F387)
+#define DELAY_F3_WORD 0x001500F3
 #define BROADCAST_01 0x004F
 #define BAD_STOP 0x004E
 
@@ -85,6 +87,15 @@ static ttcrx_receiver keeping(uint8_t count, uint8_t ones_wanted)
     ttcrx_receiver receiver = fresh_5;
     receiver.held.count = count;
     receiver.held.ones_wanted = ones_wanted;
+    return receiver;
+}
+
+/* The fresh state with these fine delays. */
+static ttcrx_receiver delaying(uint8_t fine1, uint8_t fine2)
+{
+    ttcrx_receiver receiver = fresh_5;
+    receiver.core.settings.fine1 = fine1;
+    receiver.core.settings.fine2 = fine2;
     return receiver;
 }
 

@@ -213,6 +213,70 @@ static void check_registers(void)
     CHECK(write_is(ttcrx_write(fresh_5, 21, 0x85), TTCRX_REFUSED_CONFIG, fresh_5));
 }
 
+/* Fine delays that belong to no setting: 240 to 255. Register 2 stores them. */
+static void check_delay_writes(void)
+{
+    int byte;
+    for (byte = 239; byte < 256; byte++) {
+        const uint8_t value = (uint8_t)byte;
+        const uint8_t refusal = byte < 240 ? TTCRX_ACCEPTED : TTCRX_REFUSED_FINE_DELAY;
+        const uint8_t kept = byte < 240 ? value : 0;
+        CHECK(write_is(ttcrx_write(fresh_5, 0, value), refusal, delaying(kept, 0)));
+        CHECK(write_is(ttcrx_write(fresh_5, 1, value), refusal, delaying(0, kept)));
+        CHECK(ttcrx_write(fresh_5, 2, value).receiver.core.settings.coarse == value);
+        CHECK(write_is(ttcrx_write(ill_formed, 0, value), TTCRX_REFUSED_STATE, ill_formed));
+        CHECK(write_is(ttcrx_write(fresh_5, 4, value), TTCRX_REFUSED_REGISTER, fresh_5));
+        CHECK(write_is(ttcrx_write(fresh_5, 16, value), TTCRX_REFUSED_READ_ONLY, fresh_5));
+    }
+    CHECK(write_is(ttcrx_write(fresh_5, 20, 240), TTCRX_REFUSED_CONFIG, fresh_5));
+}
+
+/* A state with such a byte is refused by 2, whatever else is wrong; one with 239 is not. */
+static void check_states_without_a_setting(void)
+{
+    const ttcrx_receiver states[3] = {delaying(240, 0), delaying(0, 255), delaying(0xF3, 0xF3)};
+    size_t i;
+    CHECK(ttcrx_well_formed(delaying(239, 239)) == 1);
+    CHECK(ttcrx_clock(delaying(239, 239), 0, 1).refusal == TTCRX_ACCEPTED);
+    for (i = 0; i < 3; i++) {
+        CHECK(ttcrx_well_formed(states[i]) == 0);
+        CHECK(clock_refused(ttcrx_clock(states[i], 2, 2), TTCRX_REFUSED_STATE, states[i]));
+        CHECK(read_is(ttcrx_read(states[i], 4), TTCRX_REFUSED_STATE, 0));
+        CHECK(write_is(ttcrx_write(states[i], 0, 250), TTCRX_REFUSED_STATE, states[i]));
+        CHECK(clock_refused(ttcrx_receive(states[i], 2, 0), TTCRX_REFUSED_STATE, states[i]));
+        CHECK(clock_refused(ttcrx_receive_short(states[i], BROADCAST_01), TTCRX_REFUSED_STATE,
+                            states[i]));
+        CHECK(clock_refused(ttcrx_receive_long(states[i], WRITE_35), TTCRX_REFUSED_STATE,
+                            states[i]));
+    }
+}
+
+/* Frames with such data: nothing is stored. A correction is counted, and status bit 5 is set. Data EF,
+   received as FF, are stored. */
+static void check_frames_without_a_setting(void)
+{
+    const ttcrx_clock_answer clean = ttcrx_receive_long(delaying(239, 0), DELAY_F3);
+    const ttcrx_clock_answer by_bits = send_bits(delaying(239, 0), 42, DELAY_F3);
+    const ttcrx_clock_answer check_bit = ttcrx_receive_long(clean.receiver, DELAY_F3 ^ 2);
+    const ttcrx_clock_answer data_bit = ttcrx_receive_long(check_bit.receiver, DELAY_F3 ^ 0x1000);
+    const ttcrx_clock_answer two_bits = ttcrx_receive_long(fresh_5, DELAY_F3 ^ 0x1002);
+    const ttcrx_clock_answer stop_bit = ttcrx_receive_long(fresh_5, DELAY_F3 ^ 1);
+    const ttcrx_clock_answer stored = ttcrx_receive_long(fresh_5, UINT64_C(0x1001500FFA7));
+    CHECK(received(clean, TTCRX_VERDICT_NO_SETTING, 0, DELAY_F3_WORD));
+    CHECK(same_state(clean.receiver, by_bits.receiver));
+    CHECK(received(by_bits, TTCRX_VERDICT_NO_SETTING, 0, DELAY_F3_WORD));
+    CHECK(received(check_bit, TTCRX_VERDICT_NO_SETTING, 1, DELAY_F3_WORD));
+    CHECK(received(data_bit, TTCRX_VERDICT_NO_SETTING, 1, DELAY_F3_WORD));
+    CHECK(data_bit.receiver.core.settings.fine1 == 239 && held_is(data_bit.receiver, 0, 0, 0));
+    CHECK(data_bit.receiver.core.errors.single_errors == 2);
+    CHECK(data_bit.receiver.core.errors.double_errors == 0);
+    CHECK(data_bit.receiver.core.errors.status5 == 1);
+    CHECK(received(two_bits, TTCRX_VERDICT_UNCORRECTABLE, 0, 0));
+    CHECK(received(stop_bit, TTCRX_VERDICT_STOP_BIT, 0, 0));
+    CHECK(received(stored, TTCRX_VERDICT_STORED, 1, 0x001500EF));
+    CHECK(read_is(ttcrx_read(stored.receiver, 0), TTCRX_ACCEPTED, 239));
+}
+
 /* The last 16 bits of WRITE_35 are a short frame's number too. */
 static void check_whole_frames(void)
 {
@@ -249,6 +313,9 @@ int main(void)
     check_states_that_want_ones();
     check_refused_clocks();
     check_registers();
+    check_delay_writes();
+    check_states_without_a_setting();
+    check_frames_without_a_setting();
     check_whole_frames();
     check_blocks();
     check_reports();

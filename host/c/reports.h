@@ -83,7 +83,8 @@ static void check_example(void)
     CHECK(text_is(&on, EXAMPLE_LINES EXAMPLE_END));
 }
 
-/* A buffer of under 34 bytes takes no line; a longer one as many as leave 34 bytes free before. */
+/* A buffer of under 35 bytes takes no line; a longer one as many as leave 35 bytes free before. A line
+   with verdict 10 and a number of 20 digits has 35. */
 static void check_input_room(void)
 {
     const size_t line = TTCRX_LONGEST_LINE;
@@ -97,10 +98,14 @@ static void check_input_room(void)
     on = begin();
     on.report.lines = UINT64_MAX - 1;
     input(&on, "100150235AD\n", line, 12, 0);
-    CHECK(text_is(&on, "18446744073709551615 2 0 00150235\n") && on.length == line);
+    CHECK(text_is(&on, "18446744073709551615 2 0 00150235\n") && on.length == line - 1);
+    on = begin();
+    on.report.lines = UINT64_MAX - 1;
+    input(&on, "1001500F387\n", line, 12, 0);
+    CHECK(text_is(&on, "18446744073709551615 10 0 001500F3\n") && on.length == line);
 }
 
-/* A last line without line feed; a buffer of under 65 bytes takes no end. */
+/* A last line without line feed; a buffer of under 66 bytes takes no end. */
 static void check_last_line(void)
 {
     reporting on = begin();
@@ -160,6 +165,22 @@ static void check_ones_after_lines(void)
     CHECK(held_is(on.report.receiver, 0, 0, 0));
 }
 
+/* Fine delays of no setting: verdict 10 is printed like verdict 2, and no ones follow it. Held by the
+   receiver given, they are refused by 2. */
+static void check_delays_in_lines(void)
+{
+    reporting on = begin();
+    input(&on, "1001500F387\n1001500E387\n1001500FFA7\n0001\n", ROOM, 41, 0);
+    CHECK(on.report.receiver.core.settings.fine1 == 239);
+    end(&on, TTCRX_LONGEST_END, 0);
+    CHECK(text_is(&on, "1 10 0 001500F3\n2 10 1 001500F3\n3 2 1 001500EF\n4 1 0 00\n"
+                       "end 2 0 0 142\n"));
+    on = begin();
+    on.report.receiver = delaying(0, 240);
+    input(&on, "1001500F387\n4001\n", ROOM, 17, 0);
+    CHECK(text_is(&on, "1 ! 2\n2 ! 12\n") && same_state(on.report.receiver, delaying(0, 240)));
+}
+
 /* A receiver that wants ones takes no frame of a line; no ones are sent for verdict 0. */
 static void check_receivers_that_want_ones(void)
 {
@@ -180,6 +201,7 @@ static void check_reports(void)
     check_example();
     check_ones_after_lines();
     check_receivers_that_want_ones();
+    check_delays_in_lines();
     check_input_room();
     check_last_line();
     check_empty_input();

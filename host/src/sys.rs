@@ -3,7 +3,7 @@
 
 use core::mem::{align_of, offset_of, size_of};
 
-pub const VERSION: u32 = 2;
+pub const VERSION: u32 = 3;
 
 pub const ACCEPTED: u8 = 0;
 pub const REFUSED_BIT: u8 = 1;
@@ -22,6 +22,7 @@ pub const REFUSED_FIELD: u8 = 13;
 pub const REFUSED_LINE_BUFFER: u8 = 14;
 pub const REFUSED_BLOCK_LENGTH: u8 = 15;
 pub const REFUSED_RECORD_BUFFER: u8 = 16;
+pub const REFUSED_FINE_DELAY: u8 = 17;
 
 pub const VERDICT_NONE: u8 = 0;
 pub const VERDICT_BROADCAST: u8 = 1;
@@ -33,6 +34,7 @@ pub const VERDICT_OTHER_SUB_ADDRESS: u8 = 6;
 pub const VERDICT_STOP_BIT: u8 = 7;
 pub const VERDICT_UNCORRECTABLE: u8 = 8;
 pub const VERDICT_FIXED_BIT: u8 = 9;
+pub const VERDICT_NO_SETTING: u8 = 10;
 
 pub const DECODED_GOOD: u8 = 0;
 
@@ -55,8 +57,8 @@ pub const CODE_MISSED: u32 = 64;
 pub const BLOCK_CLOCKS: usize = 4096;
 pub const RECORD_NUMBERS: usize = 5;
 
-pub const LONGEST_LINE: usize = 34;
-pub const LONGEST_END: usize = 65;
+pub const LONGEST_LINE: usize = 35;
+pub const LONGEST_END: usize = 66;
 
 /// Structs of ttcrx.h: size and alignment in bytes, and each field with its offset. All are
 /// asserted at compile time.

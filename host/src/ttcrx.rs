@@ -17,12 +17,12 @@ pub use crate::sys::{
 };
 pub use crate::sys::{
     REFUSED_BIT, REFUSED_BLOCK_LENGTH, REFUSED_CHARACTER, REFUSED_CONFIG, REFUSED_DELAY_BYTE,
-    REFUSED_FIELD, REFUSED_FRAME, REFUSED_I2C_ID, REFUSED_ID, REFUSED_LINE_BUFFER,
-    REFUSED_LINE_LENGTH, REFUSED_READ_ONLY, REFUSED_RECORD_BUFFER, REFUSED_REGISTER,
-    REFUSED_SETTING, REFUSED_STATE,
+    REFUSED_FIELD, REFUSED_FINE_DELAY, REFUSED_FRAME, REFUSED_I2C_ID, REFUSED_ID,
+    REFUSED_LINE_BUFFER, REFUSED_LINE_LENGTH, REFUSED_READ_ONLY, REFUSED_RECORD_BUFFER,
+    REFUSED_REGISTER, REFUSED_SETTING, REFUSED_STATE,
 };
 pub use crate::sys::{
-    VERDICT_BROADCAST, VERDICT_FIXED_BIT, VERDICT_NONE, VERDICT_OTHER_ADDRESS,
+    VERDICT_BROADCAST, VERDICT_FIXED_BIT, VERDICT_NONE, VERDICT_NO_SETTING, VERDICT_OTHER_ADDRESS,
     VERDICT_OTHER_SUB_ADDRESS, VERDICT_OUTSIDE, VERDICT_RESET, VERDICT_STOP_BIT, VERDICT_STORED,
     VERDICT_UNCORRECTABLE,
 };
@@ -111,7 +111,7 @@ pub fn read(receiver: Receiver, number: u8) -> ReadAnswer {
     unsafe { sys::ttcrx_read(receiver, number) }
 }
 
-/// Writes a byte to a register. Refusals 2, 5, 6 and 7.
+/// Writes a byte to a register. Refusals 2, 5, 6, and 17 or 7.
 pub fn write(receiver: Receiver, number: u8, value: u8) -> WriteAnswer {
     // SAFETY: takes every value and no pointer.
     unsafe { sys::ttcrx_write(receiver, number, value) }

@@ -51,7 +51,7 @@ fn words(seed: u64, count: u64) -> Vec<u32> {
         for e_and_fixed in [FIXED, 1 << 17 | FIXED] {
             for sub_address in [0, 1, 2, 3, 4, 6, 7, 255] {
                 let upper = address << 18 | e_and_fixed | sub_address << 8;
-                words.extend([0, 1, 0x35, 0x80, 0xFF].map(|data| upper | data));
+                words.extend([0, 1, 0x35, 0x80, 0xEF, 0xF0, 0xFF].map(|data| upper | data));
             }
         }
     }

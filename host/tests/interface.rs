@@ -58,7 +58,7 @@ fn functions(path: &str, before: &str) -> Names {
 #[test]
 fn constants_are_those_of_the_header() {
     let header = defined();
-    assert_eq!(header.len(), 17 + 10 + 1 + 2 + 2 + 4 + 4 + 2 + 2 + 1);
+    assert_eq!(header.len(), 18 + 11 + 1 + 2 + 2 + 4 + 4 + 2 + 2 + 1);
     assert_eq!(constants("src/sys.rs"), header);
 }
 
@@ -119,6 +119,7 @@ fn refusals() -> Vec<(&'static str, u8)> {
         ("REFUSED_LINE_BUFFER", ttcrx::write_short(1, &mut []).refusal),
         ("REFUSED_BLOCK_LENGTH", idle_block(clocks + 1, numbers + 5).refusal),
         ("REFUSED_RECORD_BUFFER", idle_block(clocks, numbers - 1).refusal),
+        ("REFUSED_FINE_DELAY", ttcrx::write(fresh(), 1, 240).refusal),
     ]
 }
 
@@ -144,6 +145,7 @@ fn verdicts() -> Vec<(&'static str, u8)> {
         ("VERDICT_STOP_BIT", verdict(Frame::short(0x01).flipped(1))),
         ("VERDICT_UNCORRECTABLE", verdict(example::UNCORRECTABLE[0])),
         ("VERDICT_FIXED_BIT", verdict(Frame::word(0))),
+        ("VERDICT_NO_SETTING", verdict(Frame::word(0x0015_00F3))),
         ("DECODED_GOOD", ttcrx::decode_short(0x004F).verdict),
     ]
 }

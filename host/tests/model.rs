@@ -242,6 +242,82 @@ fn lines_with_verdict_7() {
     }
 }
 
+/// Q-4: "A write of 240 to 255 to registers 0 or 1 is refused"; 2 and 3 take every byte.
+#[test]
+fn writes_of_every_byte() {
+    for number in 0..4 {
+        for value in 0..=255 {
+            let mut receiver = fresh();
+            let held = receiver.read(number);
+            let refused = number < 2 && value >= 240;
+            let written = if refused { Err(Refusal::FineDelay) } else { Ok(()) };
+            assert_eq!(receiver.write(number, value), written);
+            let after = if refused { held } else { Ok(value) };
+            assert_eq!(receiver.read(number), after);
+        }
+    }
+}
+
+/// Q-4: "an internal frame with such data for them gets the new verdict 10 ..: nothing stored,
+/// corrected flag and single counter as for verdict 2". Status bit 5 is set by it.
+#[test]
+fn frames_without_a_setting() {
+    for (sub_address, data) in (0..=255).flat_map(|data| [(0, data), (1, data), (2, data)]) {
+        for flip in [0, 1 << 1, 1 << 8, 1 << 15] {
+            let mut receiver = fresh();
+            send(&mut receiver, Kind::Short, 0x004E);
+            receiver.idle(41);
+            let number = long_frame(sub_address, data);
+            let fate = send(&mut receiver, Kind::Long, number ^ flip).fate;
+            let stored = sub_address == 2 || data < 240;
+            let verdict = if stored { Verdict::Stored } else { Verdict::NoSetting };
+            let word = (number >> 8) as u32;
+            assert_eq!(fate, Fate { verdict, corrected: flip != 0, word });
+            let after = receiver.state();
+            let held = if stored { data } else { 0 };
+            assert_eq!(after.registers[usize::from(sub_address)], held);
+            let errors = (after.single_errors, after.double_errors, after.status5);
+            assert_eq!(errors, ((flip != 0).into(), 1, 1));
+        }
+    }
+}
+
+/// Q-4: "tested just before 2": an address of another receiver and E = 1 come first, and then no
+/// other sub-address has the verdict.
+#[test]
+fn no_setting_comes_after_5_and_4() {
+    for (fields, verdict) in [
+        (fields(6, 0, 0, 0xF3), Verdict::OtherAddress),
+        (fields(6, 1, 1, 0xF3), Verdict::OtherAddress),
+        (fields(5, 1, 0, 0xF3), Verdict::Outside),
+        (fields(0, 1, 1, 0xFF), Verdict::Outside),
+        (fields(0, 0, 0, 0xF0), Verdict::NoSetting),
+        (fields(5, 0, 1, 0xFF), Verdict::NoSetting),
+        (fields(5, 0, 3, 0xFF), Verdict::Stored),
+        (fields(5, 0, 4, 0xF0), Verdict::OtherSubAddress),
+        (fields(5, 0, 6, 0xF0), Verdict::Reset),
+    ] {
+        let number = encode_long(fields).expect("in range");
+        let shown = send(&mut fresh(), Kind::Long, number);
+        assert_eq!(shown.fate.verdict, verdict, "{fields:?}");
+    }
+}
+
+/// Q-4: "a state with such a byte in register 0 or 1 is 2". Each other state is the receiver's own.
+#[test]
+fn fine_delays_of_a_state() {
+    for byte in 0..=255 {
+        for registers in [[byte, 0, 1, 2], [0, byte, 1, 2], [byte, byte, 1, 2]] {
+            let state = State { registers, ..fresh().state() };
+            let receiver = Receiver::from_state(&state);
+            let kept = receiver.map(|receiver| receiver.state());
+            assert_eq!(kept, (byte < 240).then_some(state));
+        }
+        let state = State { registers: [0, 0, byte, byte], ..fresh().state() };
+        assert!(Receiver::from_state(&state).is_some());
+    }
+}
+
 /// The bunch number that a broadcast clears is shown, and the clear wins over the step up.
 #[test]
 fn clears_win_in_the_state() {

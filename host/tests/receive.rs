@@ -209,6 +209,46 @@ fn long_runs() {
     both.at_least(7 * 20 * 5_000);
 }
 
+/// Internal frames with fine delays of no setting, clean and with every one and every two flips of
+/// protected bits, written down: verdict 10 with the word, then with the flag too, and 8.
+fn flips_without_a_setting(both: &Both, state: Receiver, word: u32) {
+    let frame = Frame::word(word);
+    let idle = send(&Proved, state, Frame::ones(frame.length)).receiver;
+    let expect = |flips: u64, verdict: u8, corrected: u8, word: u32| {
+        let answer = receive(both, state, LONG, frame.flipped(flips).number);
+        let shown = Outputs { verdict, corrected, word, ..Outputs::default() };
+        let mut expected = idle;
+        expected.core.errors.status5 = 1;
+        expected.core.errors.single_errors += u16::from(corrected);
+        expected.core.errors.double_errors += u8::from(verdict == VERDICT_UNCORRECTABLE);
+        both.same((state, frame, flips), (answer.outputs, answer.receiver), (shown, expected));
+    };
+    expect(0, VERDICT_NO_SETTING, 0, word);
+    for first in 1..=39 {
+        expect(1 << first, VERDICT_NO_SETTING, 1, word);
+        for second in 1..first {
+            expect(1 << first | 1 << second, VERDICT_UNCORRECTABLE, 0, 0);
+        }
+    }
+}
+
+#[test]
+fn frames_without_a_setting() {
+    let both = Both::of("whole frames with fine delays of no setting");
+    let mut state = ttcrx::fresh(5, 5).receiver;
+    state.core.settings.fine1 = 239;
+    state.core.settings.fine2 = 1;
+    state.core.errors.status5 = 0;
+    for data in 240..=255 {
+        for register in [0, 1] {
+            let address = if data % 2 == 0 { 5 } else { 0 };
+            let word = address << 18 | 1 << 16 | register << 8 | data;
+            flips_without_a_setting(&both, state, word);
+        }
+    }
+    both.at_least(16 * 2 * (1 + 39 + 741) * 4);
+}
+
 #[test]
 fn all_short_numbers() {
     let both = Both::of("all short numbers, and the first that are none");

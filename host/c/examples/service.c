@@ -16,6 +16,7 @@ static const char *fate(uint32_t verdict)
     case TTCRX_VERDICT_STOP_BIT: return ", a frame dropped: stop bit";
     case TTCRX_VERDICT_UNCORRECTABLE: return ", a frame dropped: uncorrectable";
     case TTCRX_VERDICT_FIXED_BIT: return ", a frame dropped: fixed bit";
+    case TTCRX_VERDICT_NO_SETTING: return ", a frame with a fine delay of no setting";
     default: return ", a frame executed";
     }
 }

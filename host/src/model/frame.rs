@@ -76,8 +76,8 @@ pub struct Fields {
     pub data: u8,
 }
 
-/// "Fate of a finished frame": the verdicts. 0 is a clock on which no frame finished, and a frame
-/// that was decoded well without a receiver.
+/// "Fate of a finished frame": the verdicts, and that of Q-4. 0 is a clock on which no frame
+/// finished, and a frame that was decoded well without a receiver.
 #[derive(Clone, Copy, Debug, Default, PartialEq, Eq)]
 pub enum Verdict {
     #[default]
@@ -91,6 +91,7 @@ pub enum Verdict {
     StopBit = 7,
     Uncorrectable = 8,
     FixedBit = 9,
+    NoSetting = 10,
 }
 
 /// The answer to a frame number without a receiver: verdict 7, 8 or 9; else 0, and the fields.

@@ -1,13 +1,14 @@
-//! An independent model of document 01, and of of document 02: frames, stored
-//! lines, fine delays, the receiver, blocks of clocks, and the program `ttclines`.
+//! An independent model of document 01, and of of document 02: frames, stored lines, fine
+//! delays, the receiver, blocks of clocks, and the program `ttclines`.
 //!
 //! It works differently. A received frame is decoded by a search for the nearest codeword. The bits
 //! of an unfinished frame are kept one by one in the order received, a running sequence as the two
 //! words of its event number, and of a Config byte only the bit that may change. After a bad stop
 //! bit the last 41 bits of channel B are kept, and compared with 41 ones; the ones still wanted are
 //! worked out only for the plain state. A fine delay byte is found by a search with the formula of
-//! the way back, a setting by one with the formula of the byte. It depends on nothing else of this
-//! package.
+//! the way back, a setting by one with the formula of the byte. Of registers 0 and 1 the settings
+//! are kept, not the bytes: a byte is refused there if no setting is found for it. The model depends
+//! on nothing else of this package.
 
 pub mod block;
 mod delay;
@@ -17,6 +18,7 @@ mod receiver;
 mod registers;
 pub mod report;
 mod state;
+mod stored;
 mod text;
 
 pub use delay::{delay_byte, delay_setting};
@@ -26,7 +28,7 @@ pub use line::{read_line, write_line};
 pub use receiver::{Bus, Fate, Outputs, Receiver};
 pub use state::State;
 
-/// "Numbers of refusal", and those of Q-3.
+/// "Numbers of refusal", and those of.
 #[derive(Clone, Copy, Debug, PartialEq, Eq)]
 pub enum Refusal {
     Bit = 1,
@@ -45,4 +47,5 @@ pub enum Refusal {
     LineBuffer = 14,
     BlockLength = 15,
     RecordBuffer = 16,
+    FineDelay = 17,
 }

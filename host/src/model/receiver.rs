@@ -1,6 +1,8 @@
-//! "One clock" and "Fate of a finished frame" of document 01, and Q-1 of document 02: the receiver.
+//! "One clock" and "Fate of a finished frame" of document 01, and of document 02: the
+//! receiver.
 
 use super::frame::{bits, decode, leading};
+use super::stored::Stored;
 use super::{Decoded, Fields, Kind, Refusal, Verdict};
 
 /// "Fate of a finished frame": verdict, corrected flag and word that a clock shows.
@@ -188,7 +190,7 @@ pub struct Receiver {
     pub(super) id: u16,
     pub(super) i2c: u8,
     /// Registers 0 to 3: fine delays, coarse delay, control.
-    pub(super) registers: [u8; 4],
+    pub(super) stored: Stored,
     /// Bit 7 of Config 2 and of Config 3; the other bits never differ from the fresh byte.
     pub(super) config_bit_7: [bool; 2],
     pub(super) single_errors: u16,
@@ -203,10 +205,6 @@ pub struct Receiver {
 /// "One clock": the counters go up modulo these.
 pub(super) const BUNCHES: u16 = 4096;
 pub(super) const EVENTS: u32 = 1 << 24;
-
-/// "Registers": the number of the control register, and its fresh byte.
-const CONTROL: usize = 3;
-const FRESH_CONTROL: u8 = 0x93;
 
 /// "Registers": the fresh bytes of Config 2 and Config 3. Bit 7 of both is 1.
 pub(super) const FRESH_CONFIG: [u8; 2] = [0x85, 0xA7];
@@ -229,12 +227,12 @@ impl Receiver {
         Ok(Receiver::fresh_of(id, i2c))
     }
 
-    /// "Registers": registers 0, 1 and 2 are 0, all counters 0, waiting, no sequence, status 0xE0.
+    /// "Registers": all counters 0, waiting, no sequence, status 0xE0.
     fn fresh_of(id: u16, i2c: u8) -> Receiver {
         Receiver {
             id,
             i2c,
-            registers: [0, 0, 0, FRESH_CONTROL],
+            stored: Stored::fresh(),
             config_bit_7: FRESH_CONFIG.map(|byte| byte >> 7 == 1),
             single_errors: 0,
             double_errors: 0,
@@ -317,7 +315,7 @@ impl Receiver {
     /// "One clock", step 1: the modes of control bits 1..0.
     fn start_sequence(&mut self) -> Bus {
         let event = Event::of(self.event);
-        match self.registers[CONTROL] % 4 {
+        match self.stored.mode() {
             0 => Bus::None,
             1 => Bus::Bunch(self.bunch),
             2 => {
@@ -351,7 +349,8 @@ impl Receiver {
         }
     }
 
-    /// "Fate of a finished frame": the rows from 5 on, for the fields of a good long frame.
+    /// "Fate of a finished frame": the rows from 5 on, for the fields of a good long frame. Q-4:
+    /// "the new verdict 10, tested just before 2", where the data have no place in the register.
     fn verdict_of_long(&self, fields: Fields) -> Verdict {
         if fields.address != 0 && fields.address != self.id {
             return Verdict::OtherAddress;
@@ -360,10 +359,18 @@ impl Receiver {
             return Verdict::Outside;
         }
         match fields.sub_address {
-            0..=3 => Verdict::Stored,
+            0..=3 => match self.with_data(fields) {
+                Some(_) => Verdict::Stored,
+                None => Verdict::NoSetting,
+            },
             6 => Verdict::Reset,
             _ => Verdict::OtherSubAddress,
         }
+    }
+
+    /// Registers 0 to 3 with the data of a frame for one of them; none if they have no place there.
+    fn with_data(&self, fields: Fields) -> Option<Stored> {
+        self.stored.with(fields.sub_address.into(), fields.data)
     }
 
     /// "Fate of a finished frame": the error counters, which stop at their tops.
@@ -383,7 +390,7 @@ impl Receiver {
     fn act(&mut self, verdict: Verdict, fields: Fields) {
         match verdict {
             Verdict::Broadcast => self.broadcast(fields.data),
-            Verdict::Stored => self.registers[usize::from(fields.sub_address)] = fields.data,
+            Verdict::Stored => self.stored = self.with_data(fields).expect("not verdict 10"),
             Verdict::Reset => *self = Receiver::fresh_of(self.id, self.i2c),
             Verdict::StopBit => self.channel_b = ChannelB::Quiet(LastBits::after(0)),
             _ => {}

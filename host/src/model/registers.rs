@@ -43,7 +43,7 @@ impl Receiver {
     /// "Registers", the column "holds": the byte of a register.
     pub fn read(&self, number: u8) -> Result<u8, Refusal> {
         Ok(match register(number)? {
-            Register::Stored(place) => self.registers[place],
+            Register::Stored(place) => self.stored.bytes()[place],
             Register::SingleErrors(byte) => self.single_errors.to_le_bytes()[byte],
             Register::DoubleErrors => self.double_errors,
             Register::Upsets => 0,
@@ -61,11 +61,14 @@ impl Receiver {
         0b1100_0000 | u8::from(self.status_bit_5) << 5
     }
 
-    /// "Registers", the column "write", and refusals 5, 6 and 7 in this order. A counter is cleared
-    /// whole, whatever the value; a running sequence and the bits of a frame are left alone.
+    /// "Registers", the column "write", and refusals 5, 6, and 17 or 7, in this order. A counter is
+    /// cleared whole, whatever the value; a running sequence and the bits of a frame are left alone.
     pub fn write(&mut self, number: u8, value: u8) -> Result<(), Refusal> {
         match register(number)? {
-            Register::Stored(place) => self.registers[place] = value,
+            Register::Stored(place) => {
+                let stored = self.stored.with(place, value);
+                self.stored = stored.ok_or(Refusal::FineDelay)?;
+            }
             Register::SingleErrors(_) => self.single_errors = 0,
             Register::DoubleErrors => self.double_errors = 0,
             Register::Upsets => {}

@@ -1,10 +1,11 @@
-//! "Well formed" of document 01, clause by clause, with what Q-1 of document 02 adds: plain numbers
-//! as the model's receiver, and the way back. No clause speaks of registers 0 to 3 or of the error
-//! counters: every value is one of them.
+//! "Well formed" of document 01, clause by clause, with what of document 02 add: plain
+//! numbers as the model's receiver, and the way back. No clause speaks of registers 2 and 3 or of
+//! the error counters: every value is one of them.
 
 use super::frame::bits;
 use super::receiver::{ids_in_range, Bits, ChannelB, Event, LastBits, Left};
 use super::receiver::{BUNCHES, EVENTS, FRESH_CONFIG, LONGEST, RUN};
+use super::stored::Stored;
 use super::Receiver;
 
 /// A state as plain numbers, well formed or not.
@@ -100,7 +101,7 @@ impl Receiver {
         Some(Receiver {
             id: state.id,
             i2c: state.i2c,
-            registers: state.registers,
+            stored: Stored::of(state.registers)?,
             config_bit_7: [
                 config_bit_7(state.config[0], FRESH_CONFIG[0])?,
                 config_bit_7(state.config[1], FRESH_CONFIG[1])?,
@@ -122,7 +123,7 @@ impl Receiver {
         State {
             id: self.id,
             i2c: self.i2c,
-            registers: self.registers,
+            registers: self.stored.bytes(),
             config: [self.config(0), self.config(1)],
             single_errors: self.single_errors,
             double_errors: self.double_errors,

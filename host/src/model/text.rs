@@ -2,9 +2,9 @@
 
 use super::{Fate, Kind, Refusal, Verdict};
 
-/// The longest line: a number of 20 digits, verdict, corrected flag, a word of 8 digits, three
+/// The longest line: a number of 20 digits, verdict 10, corrected flag, a word of 8 digits, three
 /// spaces and the line feed.
-pub(super) const LONGEST: usize = 20 + 1 + 1 + 8 + 3 + 1;
+pub(super) const LONGEST: usize = 20 + 2 + 1 + 8 + 3 + 1;
 
 const DIGITS: &[u8; 16] = b"0123456789ABCDEF";
 
@@ -58,7 +58,7 @@ impl Text {
     #[inline]
     fn fate(&mut self, kind: Kind, fate: Fate) {
         self.push(b' ');
-        self.push(DIGITS[fate.verdict as usize]);
+        self.decimal(fate.verdict as u64);
         self.push(b' ');
         self.push(DIGITS[usize::from(fate.corrected)]);
         self.push(b' ');

@@ -18,14 +18,19 @@ pub const MAP: [u8; 19] = [0, 1, 2, 3, 8, 9, 10, 11, 16, 17, 18, 20, 21, 22, 24,
 pub const CONFIG_2: u8 = 0x85;
 pub const CONFIG_3: u8 = 0xA7;
 
+/// "Bytes 240..255 belong to no setting": this is the last byte that does.
+pub const LAST_DELAY_BYTE: u8 = 239;
+
 impl Call {
-    /// "Numbers of refusal": a call with a well-formed state is refused by its arguments alone.
+    /// "Numbers of refusal", and 17 of Q-4 of document 02: a call with a well-formed state is refused
+    /// by its arguments alone.
     pub fn refusal(self) -> u8 {
         let beyond = |number| !MAP.contains(&number);
         match self {
             Call::Clock { trigger, data } if trigger > 1 || data > 1 => 1,
             Call::Read { number } | Call::Write { number, .. } if beyond(number) => 5,
             Call::Write { number, .. } if [16, 17, 18, 22].contains(&number) => 6,
+            Call::Write { number: 0 | 1, value } if value > LAST_DELAY_BYTE => 17,
             Call::Write { number: 20, value } if value % 128 != CONFIG_2 % 128 => 7,
             Call::Write { number: 21, value } if value % 128 != CONFIG_3 % 128 => 7,
             _ => 0,
@@ -92,10 +97,18 @@ pub fn refused_clock(random: &mut Random) -> Call {
     Call::Clock { trigger, data }
 }
 
+/// A byte for a fine delay register: mostly one that belongs to no setting, or the last that does.
+pub fn fine_delay(random: &mut Random) -> u8 {
+    let any = random.byte();
+    let over = LAST_DELAY_BYTE + 1 + any % 16;
+    random.pick(&[any, LAST_DELAY_BYTE, LAST_DELAY_BYTE + 1, u8::MAX, over, over])
+}
+
 /// A byte to write; to a Config register mostly one that differs from the fresh one in at most a
 /// single bit.
 fn value(random: &mut Random, number: u8) -> u8 {
     let fresh = match number {
+        0 | 1 => return fine_delay(random),
         20 => CONFIG_2,
         21 => CONFIG_3,
         _ => return random.byte(),

@@ -1,6 +1,7 @@
 //! What is sent to a receiver: frames of every fate, bursts, idle, noise and runs of ones on
 //! channel B, and triggers on channel A.
 
+use super::calls::fine_delay;
 use super::coverage::{assert_seen, Tally};
 use super::frame::{Frame, RUN};
 use super::random::Random;
@@ -85,13 +86,22 @@ fn sub_address(random: &mut Random, habit: Habit) -> u8 {
     random.pick(&[0, 1, 2, 3, 3, 3, 4, 5, 7, 0x46, 0x83, any])
 }
 
+/// Any byte; for a fine delay often one that belongs to no setting, so that verdict 10 is frequent.
+fn data(random: &mut Random, sub_address: u8) -> u8 {
+    match sub_address {
+        0 | 1 => fine_delay(random),
+        _ => random.byte(),
+    }
+}
+
 /// The fields of a long frame, of any fate at the receiver of this ID.
 pub fn fields(random: &mut Random, id: u16, habit: Habit) -> Fields {
+    let sub_address = sub_address(random, habit);
     Fields {
         address: address(random, id),
         e: random.once_in(5).into(),
-        sub_address: sub_address(random, habit),
-        data: random.byte(),
+        sub_address,
+        data: data(random, sub_address),
     }
 }
 

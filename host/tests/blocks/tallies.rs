@@ -30,7 +30,9 @@ impl Records {
             let (verdict, corrected, trigger) = parts(record.code);
             match verdict {
                 VERDICT_NONE => self.triggers.seen([trigger]),
-                _ if verdict::is_good(verdict) => self.good.seen([verdict, corrected, trigger]),
+                _ if verdict::is_good(verdict) => {
+                    self.good.seen([verdict::last_digit(verdict), corrected, trigger]);
+                }
                 _ => self.dropped.seen([verdict, trigger]),
             }
             if record.bunch == 4095 {

@@ -33,15 +33,15 @@ fn expect(both: &Both, edge: Edge) {
             expect_call(both, edge, Call::Clock { trigger, data });
         }
     }
-    for (number, value) in [(2, 0), (8, 1), (4, 2), (17, 3), (21, 0x26), (255, 255)] {
+    for (number, value) in [(2, 0), (8, 1), (4, 2), (17, 3), (21, 0x26), (255, 255), (1, 240)] {
         expect_call(both, edge, Call::Read { number });
         expect_call(both, edge, Call::Write { number, value });
     }
 }
 
-/// At the least: `expect` compares well_formed twice, each of the 16 clocks, 6 reads and 6 writes
+/// At the least: `expect` compares well_formed twice, each of the 16 clocks, 7 reads and 7 writes
 /// twice, and the 12 clocks with a bit over 1 once more.
-const COMPARISONS: u64 = 2 * (1 + 16 + 6 + 6) + 12;
+const COMPARISONS: u64 = 2 * (1 + 16 + 7 + 7) + 12;
 
 /// The edges of a clause of "Well formed": so many times, and so many states each time.
 fn expect_edges(
@@ -62,13 +62,19 @@ fn expect_edges(
 #[test]
 fn edges_of_ids_and_numbers() {
     let name = "states with an ID or a number at its edge";
-    expect_edges(name, (50, 200, 25), edges::numbers);
+    expect_edges(name, (50, 200, 23), edges::numbers);
 }
 
 #[test]
 fn every_config_byte() {
     let name = "states with every Config byte";
     expect_edges(name, (51, 10, 2 * 256), edges::config_bytes);
+}
+
+#[test]
+fn every_fine_delay() {
+    let name = "states with every byte in the fine delay registers";
+    expect_edges(name, (57, 10, 3 * 256), edges::fine_delays);
 }
 
 #[test]

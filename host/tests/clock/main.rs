@@ -3,5 +3,6 @@
 //! well_formed too.
 
 mod ill_formed;
+mod no_setting;
 mod runs;
 mod states;

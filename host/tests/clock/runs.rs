@@ -81,7 +81,12 @@ impl Runs {
 
     /// Calls with an ill-formed state, right ones among them: refused, and the state as it came.
     fn ill_formed(&mut self, mut state: Receiver) {
-        state.core.ids.i2c |= 64;
+        let settings = &mut state.core.settings;
+        match self.random.below(3) {
+            0 => state.core.ids.i2c |= 64,
+            1 => settings.fine1 |= 0xF0,
+            _ => settings.fine2 |= 0xF0,
+        }
         let right = Call::Clock { trigger: 1, data: 0 };
         let over = refused_clock(&mut self.random);
         for made in [right, over, access(&mut self.random)] {

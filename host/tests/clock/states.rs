@@ -18,7 +18,7 @@ const EVENTS: u32 = 1 << 24;
 fn random_states_with_random_bits() {
     let both = Both::of("clocks from random well-formed states");
     let mut random = Random::new(40);
-    let mut verdicts = [0; 10];
+    let mut verdicts = [0; 11];
     for _ in 0..2_000_000 {
         let state = states::well_formed(&mut random);
         both.same(state, both.well_formed(state), 1);
@@ -75,8 +75,8 @@ fn frames() -> Vec<Frame> {
     let broadcasts = (0..8).chain([0xFF]).map(Frame::short);
     let mut frames: Vec<Frame> = broadcasts.collect();
     for address in [0, ID, 4, 6, 16383] {
-        for e in [0, 1] {
-            let long = |sub_address| Fields { address, e, sub_address, data: 0x6C };
+        for (e, data) in [(0, 0x6C), (1, 0x6C), (0, 0xF3), (1, 0xF3)] {
+            let long = |sub_address| Fields { address, e, sub_address, data };
             let sub_addresses = [0, 1, 2, 3, 4, 5, 6, 7, 0x86, 255];
             frames.extend(sub_addresses.map(long).map(Frame::long));
         }
@@ -86,7 +86,7 @@ fn frames() -> Vec<Frame> {
 }
 
 /// Counters and sequences that a frame or a trigger may clear, raise or end.
-fn edge_cores() -> Vec<Core> {
+pub fn edge_cores() -> Vec<Core> {
     let mut cores = Vec::new();
     for control in [0x90, 0x91, 0x92, 0x93] {
         for (left, kept) in [(0, 0), (1, 0x0012_3456), (2, 0x0012_3456)] {
@@ -126,7 +126,7 @@ fn held_bits() -> Vec<Held> {
 fn last_bits_at_the_edges() {
     let both = Both::of("last bits of frames of every fate at the edges");
     let cores = edge_cores();
-    let mut verdicts = [0; 10];
+    let mut verdicts = [0; 11];
     for held in held_bits() {
         for &core in &cores {
             for (trigger, data) in BITS {
@@ -139,7 +139,7 @@ fn last_bits_at_the_edges() {
         }
     }
     assert!(verdicts[1..].iter().all(|&count| count > 0), "{verdicts:?}");
-    both.at_least(2 * 111 * 4 * 108 * 4);
+    both.at_least(2 * 211 * 4 * 108 * 4);
 }
 
 /// After 41 ones the receiver waits. It has finished one frame on the way if it held a bit, else

@@ -4,7 +4,9 @@
 use crate::runner::{Run, Runner};
 use crate::sent::Sent;
 use crate::tallies::Tallies;
-use ttcrx_host::sys::{Held, Outputs, Receiver, VERDICT_RESET, VERDICT_UNCORRECTABLE};
+use ttcrx_host::model::Fields;
+use ttcrx_host::sys::{Held, Outputs, Receiver};
+use ttcrx_host::sys::{VERDICT_NO_SETTING, VERDICT_RESET, VERDICT_UNCORRECTABLE};
 use ttcrx_host::testing::calls::{carrying, Call, Mix};
 use ttcrx_host::testing::frame::Frame;
 use ttcrx_host::testing::library::Library;
@@ -22,14 +24,18 @@ pub struct List {
 
 impl List {
     fn any(random: &mut Random) -> List {
-        let mut start = states::well_formed(random);
-        start.held = Held::default();
+        let start = waiting(random);
         List::from(random, start)
     }
 
     /// A list from this state, which waits.
     pub fn from(random: &mut Random, start: Receiver) -> List {
         let sent = Sent::any(random, start.core.ids.id);
+        List::of(random, start, sent)
+    }
+
+    /// A list from this state, which waits, with this frame.
+    fn of(random: &mut Random, start: Receiver, sent: Sent) -> List {
         let mix = Mix::any(random);
         let mut idle = Vec::new();
         for _ in 0..sent.frame().length {
@@ -42,6 +48,12 @@ impl List {
     pub fn frame(&self) -> Frame {
         self.sent.frame()
     }
+}
+
+/// A state that waits.
+fn waiting(random: &mut Random) -> Receiver {
+    let held = Held::default();
+    Receiver { held, ..states::well_formed(random) }
 }
 
 pub struct Frames<'a> {
@@ -152,6 +164,21 @@ fn all_flips(frame: Frame) -> Vec<u64> {
         flips.extend((1..first).map(|second| 1 << first | 1 << second));
     }
     flips
+}
+
+/// Every frame of Q-4 that has no setting, with every flip of one and of two protected bits.
+pub fn check_no_setting(library: &dyn Library, seed: u64) {
+    let mut frames = Frames::new(library, "lists that carry a frame without a setting");
+    let mut random = Random::new(seed);
+    for (sub_address, data) in (240..=255).flat_map(|data| [(0, data), (1, data)]) {
+        let start = waiting(&mut random);
+        let address = random.pick(&[0, start.core.ids.id]);
+        let sent = Sent::Long(Fields { address, e: 0, sub_address, data });
+        let list = List::of(&mut random, start, sent);
+        let row = frames.list(&list, &all_flips(list.frame()));
+        frames.runner.cases.same(&list, row, VERDICT_NO_SETTING);
+    }
+    frames.at_least(32 * (1 + 39 + 741) * 45);
 }
 
 /// Some lists with every flip of one and of two protected bits.

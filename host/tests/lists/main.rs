@@ -1,5 +1,5 @@
-//! "Demand 3, over lists of calls" of document 01, and Q-1 of document 02 over such lists, as
-//! properties of any library: of the model, of the proved library, and of the latter with every
+//! "Demand 3, over lists of calls" of document 01, and of document 02 over such lists,
+//! as properties of any library: of the model, of the proved library, and of the latter with every
 //! answer compared with the model's. What is expected comes from the papers' words; the model's
 //! clock is not asked.
 
@@ -7,6 +7,7 @@ mod frames;
 mod quiet;
 mod runner;
 mod sent;
+mod settings;
 mod tallies;
 mod waits;
 
@@ -34,12 +35,14 @@ fn the_library_answers_like_the_model_and_waits() {
 fn the_model_receives_frames() {
     frames::check(&Model, 82, 20_000);
     frames::check_all_flips(&Model, 83);
+    frames::check_no_setting(&Model, 89);
 }
 
 #[test]
 fn the_library_receives_frames() {
     frames::check(&Proved, 82, 20_000);
     frames::check_all_flips(&Proved, 83);
+    frames::check_no_setting(&Proved, 89);
 }
 
 #[test]
@@ -67,4 +70,21 @@ fn the_library_answers_like_the_model_and_is_quiet() {
     quiet::check(&both, 87, 10_000);
     quiet::check_40_ones(&both, 88, 10_000);
     both.at_least(5_000_000);
+}
+
+#[test]
+fn the_model_keeps_settings() {
+    settings::check(&Model, 90, 3_000);
+}
+
+#[test]
+fn the_library_keeps_settings() {
+    settings::check(&Proved, 90, 3_000);
+}
+
+#[test]
+fn the_library_answers_like_the_model_and_keeps_settings() {
+    let both = Both::of("calls of lists from fresh");
+    settings::check(&both, 91, 3_000);
+    both.at_least(2_000_000);
 }

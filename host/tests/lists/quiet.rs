@@ -16,7 +16,7 @@ tallies! {
     struct Tallies {
         stops: [("long frame with a bad stop bit", 0, 1), ("trigger", 0, 1)],
         parts: [("runs and frames before 41 ones", 0, 5)],
-        after: [("verdict of the frame after 41 ones", 1, 6)],
+        after: [verdict::GOOD],
     }
 }
 
@@ -142,7 +142,7 @@ impl<'a> Lists<'a> {
         let frame = list.frame();
         let flips = [1, 2].map(|count| protected(&mut self.random, frame, count));
         let row = self.frames.list(&list, &flips);
-        self.tallies.after.seen([row]);
+        self.tallies.after.seen([verdict::last_digit(row)]);
     }
 
     fn list(&mut self) {

@@ -1,4 +1,5 @@
-//! Properly encoded frames, and what document 01's table says of their fields.
+//! Properly encoded frames, and what document 01's table, amended by Q-4 of document 02, says of
+//! their fields.
 
 use ttcrx_host::model::Fields;
 use ttcrx_host::sys::*;
@@ -48,9 +49,11 @@ impl Sent {
         let Sent::Long(fields) = self else {
             return VERDICT_BROADCAST;
         };
+        let fine_delay = [0, 1].contains(&fields.sub_address);
         let rows = [
             (VERDICT_OTHER_ADDRESS, ![0, id].contains(&fields.address)),
             (VERDICT_OUTSIDE, fields.e == 1),
+            (VERDICT_NO_SETTING, fine_delay && fields.data >= 240),
             (VERDICT_STORED, [0, 1, 2, 3].contains(&fields.sub_address)),
             (VERDICT_RESET, fields.sub_address == 6),
         ];

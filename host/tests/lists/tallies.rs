@@ -3,10 +3,10 @@
 use crate::runner::Run;
 use crate::sent::Sent;
 use ttcrx_host::model::Fields;
-use ttcrx_host::sys::{Errors, VERDICT_STORED};
+use ttcrx_host::sys::{Errors, VERDICT_NO_SETTING, VERDICT_STORED};
 use ttcrx_host::tallies;
+use ttcrx_host::testing::verdict::{last_digit, GOOD as ROW};
 
-const ROW: (&str, u8, u8) = ("row", 1, 6);
 const FLIPS: (&str, u8, u8) = ("flips", 0, 2);
 const TRIGGER: (&str, u8, u8) = ("last trigger", 0, 1);
 const LEFT: (&str, u8, u8) = ("words left", 0, 2);
@@ -20,6 +20,7 @@ tallies! {
         broadcasts: [("broadcast bits", 0, 3), FLIPS, TRIGGER, LEFT],
         fields: [ADDRESS, ("E", 0, 1), SUB_ADDRESS, FLIPS],
         registers: [("register", 0, 3), ("own address", 0, 1), FLIPS],
+        no_setting: [("no setting, register", 0, 1), ("own address", 0, 1), FLIPS],
         status5: [("status bit 5 of the idle list", 0, 1), FLIPS],
         single: [ROW, ("single errors at one flip (0, more, 65534, full)", 0, 3)],
         double: [ROW, ("double errors at two flips (0, more, 254, full)", 0, 3)],
@@ -35,7 +36,7 @@ impl Tallies {
         let id = idle.end.core.ids.id;
         let row = sent.row(id);
         let (trigger, left) = (idle.last().trigger, idle.before_last.core.sequence.left);
-        self.rows.seen([row, flips, trigger, left]);
+        self.rows.seen([last_digit(row), flips, trigger, left]);
         match sent {
             Sent::Short(data) => self.broadcasts.seen([data % 4, flips, trigger, left]),
             Sent::Long(fields) => self.long(fields, id, row, flips),
@@ -58,8 +59,10 @@ impl Tallies {
             _ => 2,
         };
         self.fields.seen([address, fields.e, sub_address, flips]);
-        if row == VERDICT_STORED {
-            self.registers.seen([fields.sub_address, address, flips]);
+        match row {
+            VERDICT_STORED => self.registers.seen([fields.sub_address, address, flips]),
+            VERDICT_NO_SETTING => self.no_setting.seen([fields.sub_address, address, flips]),
+            _ => {}
         }
     }
 
@@ -72,8 +75,8 @@ impl Tallies {
         };
         let (single, double) = (errors.single_errors, errors.double_errors);
         match flips {
-            1 => self.single.seen([row, place(single, 65535)]),
-            2 => self.double.seen([row, place(double.into(), 255)]),
+            1 => self.single.seen([last_digit(row), place(single, 65535)]),
+            2 => self.double.seen([last_digit(row), place(double.into(), 255)]),
             _ => {}
         }
     }

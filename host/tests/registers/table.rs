@@ -2,7 +2,8 @@
 
 use ttcrx_host::sys::{Core, Counters, Errors, Held, Ids, Sequence, Settings};
 use ttcrx_host::sys::{ReadAnswer, Receiver, WriteAnswer};
-use ttcrx_host::sys::{REFUSED_CONFIG, REFUSED_READ_ONLY, REFUSED_REGISTER, REFUSED_STATE};
+use ttcrx_host::sys::{REFUSED_CONFIG, REFUSED_FINE_DELAY};
+use ttcrx_host::sys::{REFUSED_READ_ONLY, REFUSED_REGISTER, REFUSED_STATE};
 use ttcrx_host::testing::compare::Both;
 use ttcrx_host::testing::convert::{refused_clock, refused_write, Answer};
 use ttcrx_host::testing::frame::wanting;
@@ -16,7 +17,7 @@ const STATE: Receiver = Receiver {
         ids: Ids { id: 0x2A1B, i2c: 0x3C },
         settings: Settings {
             fine1: 0x4D,
-            fine2: 0xF5,
+            fine2: 0xE5,
             coarse: 0x6E,
             control: 0x7F,
             config2: 0x05,
@@ -33,7 +34,7 @@ const STATE: Receiver = Receiver {
 /// The ID has 14 bits and the bunch counter 12: their high bytes have 6 and 4.
 const HOLDS: [(u8, u8, u8); 19] = [
     (0, 0x4D, 0x00),
-    (1, 0xF5, 0x00),
+    (1, 0xE5, 0x00),
     (2, 0x6E, 0x00),
     (3, 0x7F, 0x93),
     (8, 0x81, 0x00),
@@ -77,7 +78,8 @@ fn reads() {
     both.at_least(2 * 513);
 }
 
-/// Numbers of registers, and what a write of any value makes of the state.
+/// Numbers of registers, and what a write makes of the state: of any value, but in the first two
+/// rows only of one under 240.
 type Row = (&'static [u8], fn(&mut Core, u8));
 
 const ACCEPTED: [Row; 9] = [
@@ -101,6 +103,7 @@ fn written(state: Receiver, number: u8, value: u8) -> WriteAnswer {
         (20, 0x85 | 0x05) => settings.config2 = value,
         (21, 0xA7 | 0x27) => settings.config3 = value,
         (20 | 21, _) => refusal = REFUSED_CONFIG,
+        (0 | 1, 240..) => refusal = REFUSED_FINE_DELAY,
         (16 | 17 | 18 | 22, _) => refusal = REFUSED_READ_ONLY,
         _ => match ACCEPTED.iter().find(|row| row.0.contains(&number)) {
             Some((_, change)) => change(&mut receiver.core, value),
@@ -128,11 +131,13 @@ fn writes() {
     both.at_least(2 * 22 * 65_536);
 }
 
-/// A stored byte is read back; a cleared counter is 0 in each of its bytes; the rest stays.
+/// A stored byte is read back, but none over 239 in a fine delay register; a cleared counter is 0 in
+/// each of its bytes; the rest stays.
 fn reads_after_a_write(both: &Both, counter: &[u8], number: u8, value: u8) {
     let after = both.write(STATE, number, value).receiver;
     for (other, held, _) in HOLDS {
         let expected = match other {
+            0 | 1 if other == number && value > 239 => held,
             0..=3 if other == number => value,
             _ if counter.contains(&other) => 0,
             _ => held,
@@ -155,7 +160,7 @@ fn reads_after_writes() {
     both.at_least(2 * 13 * 256 * 19);
 }
 
-/// "First, in clock, read, write": 2 comes before 1, 5, 6 and 7, and before success.
+/// "First, in clock, read, write": 2 comes before 1, 5, 6, 7 and 17, and before success.
 #[test]
 fn ill_formed() {
     let both = Both::of("calls with an ill-formed state");

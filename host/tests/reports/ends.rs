@@ -36,7 +36,7 @@ fn says(both: &Both<'static>, report: Report, expected: &str) {
 #[test]
 fn ends_by_hand() {
     let both = Both::of("ends written out by hand");
-    let ends: [(u64, LinePart, &str); 11] = [
+    let ends: [(u64, LinePart, &str); 13] = [
         (0, front(b""), "end 0 0 0 0\n"),
         (9, front(b""), "end 0 0 0 0\n"),
         (9, front(b"2097"), "10 1 1 02\nend 1 0 0 16\n"),
@@ -49,16 +49,20 @@ fn ends_by_hand() {
         (7, front(b"4001"), "8 ! 12\nend 0 0 0 0\n"),
         (u64::MAX - 1, front(b"100150235AD"), "18446744073709551615 2 0 00150235\nend 0 0 0 42\n"),
         (0, TOO_LONG, "1 ! 10\nend 0 0 0 0\n"),
+        // Fine delay F3, clean and with a wrong check bit: it belongs to no setting.
+        (0, front(b"1001500F387"), "1 10 0 001500F3\nend 0 0 0 42\n"),
+        (9, front(b"1001500F385"), "10 10 1 001500F3\nend 1 0 0 42\n"),
     ];
     for (lines, part, expected) in ends {
         let receiver = report_start().receiver;
         let report = Report { receiver, lines, part };
         says(&both, report, expected);
     }
-    both.at_least(11 * 5);
+    both.at_least(13 * 5);
 }
 
-/// The greatest numbers: those of a receiver that waits, and any of one that is ill-formed.
+/// The greatest numbers: those of a receiver that waits, and any of one that is ill-formed. The
+/// longest text has 63 bytes: the longest line is never that of an ill-formed receiver.
 #[test]
 fn greatest_numbers() {
     let both = Both::of("ends with the greatest numbers");
@@ -66,15 +70,21 @@ fn greatest_numbers() {
     report.lines = u64::MAX - 1;
     report.receiver.core.errors = Errors { single_errors: 65535, double_errors: 255, status5: 1 };
     let events = (1 << 24) - 1;
-    for (bunch, event, line, said, counts) in [
+    let ends: [(u16, u32, &[u8], &str, &str); 5] = [
         (4079, events, b"2097", "1 1 02", "0 4095"),
         (4079, events, b"0001", "1 0 00", "16777215 4095"),
+        (4053, events, b"1001500F387", "10 0 001500F3", "16777215 4095"),
         (65535, u32::MAX, b"0001", "! 2", "4294967295 65535"),
-    ] {
+        (65535, u32::MAX, b"1001500F387", "! 2", "4294967295 65535"),
+    ];
+    let mut longest = 0;
+    for (bunch, event, line, said, counts) in ends {
         report.part = front(line);
         report.receiver.core.counters = Counters { bunch, event };
         let expected = format!("18446744073709551615 {said}\nend 65535 255 {counts}\n");
         says(&both, report, &expected);
+        longest = longest.max(expected.len());
     }
-    both.at_least(3 * 5);
+    both.same("longest", longest, 63);
+    both.at_least(5 * 5 + 1);
 }

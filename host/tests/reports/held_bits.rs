@@ -108,7 +108,9 @@ fn verdict(both: &Both<'static>, held: Held, line: &str, digits: usize) -> u8 {
     verdict.parse().expect("a digit")
 }
 
-/// The receiver holds all but the last 16 bits of a long frame; these are a short line.
+/// The receiver holds all but the last 16 bits of a long frame; these are a short line. Its first two
+/// bits, which are 0, are data bits 7 and 6: no single flip makes 240 of such data, so verdict 10
+/// does not come.
 #[test]
 fn long_frames_by_short_lines() {
     let both = Both::of("long frames finished by short lines");

@@ -14,7 +14,7 @@ use ttcrx_host::ttcrx::report_start;
 const AMPLE: usize = 40_000;
 
 /// Lengths of buffers that take a line, near the least one and others.
-const LENGTHS: [usize; 9] = [34, 35, 36, 64, 65, 66, 100, 4_096, AMPLE];
+const LENGTHS: [usize; 9] = [35, 36, 37, 65, 66, 67, 100, 4_096, AMPLE];
 
 /// Reports the pieces, with buffers of these lengths in turn, and the end. Gives what the report
 /// kept before the end.
@@ -63,7 +63,7 @@ fn every_two_cuts() {
         for second in first..=input.len() {
             let (front, back) = input.split_at(second);
             let (front, middle) = front.split_at(first);
-            as_whole(&both, &[front, middle, back], &[LONGEST_LINE, 65, AMPLE]);
+            as_whole(&both, &[front, middle, back], &[LONGEST_LINE, LONGEST_END, AMPLE]);
         }
     }
     both.at_least(47_000);
@@ -101,7 +101,8 @@ fn single_bytes() {
 #[test]
 fn many_lines() {
     let both = Both::of("20,000 lines in pieces of 4,096 bytes");
-    for (mix, length) in [(&EVERY_KIND, 4_096), (&MOSTLY_CLEAN, 65), (&EVERY_KIND, LONGEST_LINE)] {
+    let lengths = [(&EVERY_KIND, 4_096), (&MOSTLY_CLEAN, LONGEST_END), (&EVERY_KIND, LONGEST_LINE)];
+    for (mix, length) in lengths {
         let input = lines(&mut Random::new(length as u64), mix, 20_000);
         let pieces: Vec<&[u8]> = input.chunks(4_096).collect();
         as_whole(&both, &pieces, &[length]);
@@ -121,7 +122,7 @@ fn long_lines() {
                 continue;
             }
             let pieces: Vec<&[u8]> = input.chunks(piece).collect();
-            reported(&both, &pieces, &[LONGEST_LINE, 65]);
+            reported(&both, &pieces, &[LONGEST_LINE, LONGEST_END]);
         }
     }
     both.at_least(130_000);

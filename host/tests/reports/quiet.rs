@@ -11,7 +11,7 @@ use ttcrx_host::testing::frame::{send, wanting, Frame, RUN};
 use ttcrx_host::testing::library::Proved;
 use ttcrx_host::testing::lines::{any_frame, EVERY_KIND};
 use ttcrx_host::testing::random::Random;
-use ttcrx_host::testing::states;
+use ttcrx_host::testing::{states, verdict};
 use ttcrx_host::ttcrx;
 
 /// Lines with verdict 7, first, in the middle, last, several in a row, with and without the last
@@ -180,7 +180,7 @@ fn reports_by_single_clocks() {
 fn random_reports() {
     let both = Both::of("reports of receivers that want ones");
     let mut random = Random::new(351);
-    let mut verdicts = Tally::of([("verdict", 0, 9)]);
+    let mut verdicts = Tally::of([verdict::ANY]);
     for ones_wanted in (1..=RUN).flat_map(|wanted| [wanted; 300]) {
         let input = [b"1FFFFFFFFFF\n".to_vec(), input(&mut random, 6)].concat();
         let input = &input[random.pick(&[0, 12])..];

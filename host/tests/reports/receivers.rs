@@ -5,7 +5,7 @@ use crate::driver::Driver;
 use crate::inputs::any_report;
 use ttcrx_host::model::Fields;
 use ttcrx_host::sys::{Receiver, Report, LONGEST_END, LONGEST_LINE};
-use ttcrx_host::sys::{VERDICT_OTHER_ADDRESS, VERDICT_OTHER_SUB_ADDRESS};
+use ttcrx_host::sys::{VERDICT_NO_SETTING, VERDICT_OTHER_ADDRESS, VERDICT_OTHER_SUB_ADDRESS};
 use ttcrx_host::sys::{VERDICT_OUTSIDE, VERDICT_RESET, VERDICT_STORED};
 use ttcrx_host::testing::compare::Both;
 use ttcrx_host::testing::frame::Frame;
@@ -28,10 +28,19 @@ fn said(both: &Both<'static>, receiver: Receiver, input: &[u8]) -> String {
     driver.text()
 }
 
-/// Long frames as the receiver of this ID sees them: address, E, sub-address, verdict.
-fn frames(id: u16) -> [(u16, u8, u8, u8); 7] {
+/// Long frames as the receiver of this ID sees them: address, E, sub-address, verdict. Their data are
+/// the low byte of the ID.
+fn frames(id: u16) -> [(u16, u8, u8, u8); 11] {
     let other = id % 16383 + 1;
+    let fine_delay = match id as u8 {
+        0..=239 => VERDICT_STORED,
+        240.. => VERDICT_NO_SETTING,
+    };
     [
+        (id, 0, 0, fine_delay),
+        (0, 0, 1, fine_delay),
+        (other, 0, 1, VERDICT_OTHER_ADDRESS),
+        (id, 1, 0, VERDICT_OUTSIDE),
         (id, 0, 2, VERDICT_STORED),
         (0, 0, 3, VERDICT_STORED),
         (other, 0, 2, VERDICT_OTHER_ADDRESS),

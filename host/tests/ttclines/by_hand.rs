@@ -1,4 +1,5 @@
-//! Outputs by hand: the example of document 01, lines with verdict 7, and the smallest inputs.
+//! Outputs by hand: the example of document 01, lines with verdicts 7 and 10, and the smallest
+//! inputs.
 
 use crate::compare::{same, same_text};
 use crate::program;
@@ -26,7 +27,7 @@ fn the_example_of_document_01() {
 }
 
 /// Inputs, and what is printed of them.
-const BY_HAND: [(&str, &str); 30] = [
+const BY_HAND: [(&str, &str); 34] = [
     // Other examples of document 01: RESET, E = 1, 0095 and 0039, the stray 0 in idle.
     (
         "0095\n0039\n1FFFFFFFFFF\n1001710AAB7\n10001023543\n100150600F3\n3FCD\n00D9\n0001",
@@ -37,6 +38,26 @@ const BY_HAND: [(&str, &str); 30] = [
     // format and stop.
     ("10000000001\n", "1 9 0 00000000\nend 0 1 0 42\n"),
     ("10000000003\n", "1 9 0 00000000\nend 0 1 0 42\n"),
+    // Fine delays of no setting, clean and with a wrong bit: of check, of data (F3 as E3, EF as FF).
+    (
+        "1001500F387\n1001501F3B3\n1000100F071\n1000101FF5B\n",
+        "1 10 0 001500F3\n2 10 0 001501F3\n3 10 0 000100F0\n4 10 0 000101FF\nend 0 0 0 168\n",
+    ),
+    (
+        "1001500F385\n1001500E387\n1001500FFA7\n",
+        "1 10 1 001500F3\n2 10 1 001500F3\n3 2 1 001500EF\nend 3 0 0 126\n",
+    ),
+    // The same data for other registers, for another address, with E = 1; with stop bit 0.
+    (
+        "1001502F3BF\n1001503F38B\n1001900F39F\n1001700F3E3\n1001500F386\n",
+        "1 2 0 001502F3\n2 2 0 001503F3\n3 5 0 001900F3\n4 4 0 001700F3\n5 7 0 -\n\
+         end 0 1 0 251\n",
+    ),
+    // No ones are sent after verdict 10; two wrong bits; fixed bit 0.
+    (
+        "1001500F387\n0001\n1001500F381\n1001400F3E5",
+        "1 10 0 001500F3\n2 1 0 00\n3 8 0 -\n4 9 0 001400F3\nend 0 2 0 142\n",
+    ),
     // 41 ones after each line with verdict 7, wherever it stands; none after 8 and 9.
     ("004E\n", "1 7 0 -\nend 0 1 0 57\n"),
     ("004E", "1 7 0 -\nend 0 1 0 57\n"),
@@ -78,5 +99,5 @@ fn small_inputs() {
     for (input, output) in BY_HAND {
         says(&cases, input, output);
     }
-    cases.at_least(30 * 4);
+    cases.at_least(34 * 4);
 }

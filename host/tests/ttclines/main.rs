@@ -1,4 +1,4 @@
-//! The program `ttclines` of document 01, "Stored lines", with Q-1 of document 02: its whole
+//! The program `ttclines` of document 01, "Stored lines", with of document 02: its whole
 //! output, byte for byte, beside that of the model. TTCLINES names the program, else it is
 //! ../target/bin/ttclines.
 

@@ -25,7 +25,7 @@ impl Said {
         match (fields[1], fields.len()) {
             ("!", 3) => self.refusals.seen([number(2)]),
             ("7" | "8" | "9", 4) => self.dropped.seen([number(1), number(2)]),
-            (_, 4) => self.good.seen([number(1), number(2)]),
+            (_, 4) => self.good.seen([verdict::last_digit(number(1)), number(2)]),
             _ => panic!("a line of another form: {line}"),
         }
     }

@@ -140,6 +140,58 @@ table! {
     ReportInput quiet::ones_after_every_line_in_a_run, "reports quiet" "reports held_bits":
         "ones are sent after each line that leaves the receiver wanting ones";
 
+    // No delay byte without a setting: Q-4 of document 02.
+    Clock no_setting::no_setting_stores, "clock no_setting" "lists keeps_settings":
+        "a byte of no setting is stored, with verdict 10";
+    Clock no_setting::delay_byte_239_dropped, "clock no_setting":
+        "fine delay byte 239 gets verdict 10";
+    Clock no_setting::delay_byte_240_stored, "clock no_setting" "lists keeps_settings":
+        "fine delay byte 240 is stored";
+    Clock no_setting::received_data_decide, "clock no_setting" "lists receives_frames":
+        "verdict 10 goes by the data before their correction";
+    Clock no_setting::no_setting_before_outside, "clock no_setting":
+        "verdict 10 is tested before 4";
+    Clock no_setting::no_setting_before_address, "clock no_setting":
+        "verdict 10 is tested before 5";
+    Clock no_setting::no_setting_in_register_2, "clock no_setting":
+        "sub-address 2 has verdict 10 too";
+    Clock no_setting::no_setting_not_counted, "clock no_setting" "lists receives_frames":
+        "a corrected frame with verdict 10 does not raise the single error counter";
+    Clock no_setting::no_setting_without_word, "clock no_setting":
+        "the word is 0 with verdict 10";
+    Clock no_setting::no_setting_is_a_double_error, "clock no_setting":
+        "verdict 10 raises the double error counter";
+    Clock no_setting::no_setting_leaves_status, "clock no_setting" "lists receives_frames":
+        "verdict 10 does not set status bit 5";
+    Clock no_setting::quiet_after_10, "clock no_setting":
+        "verdict 10 makes the receiver want ones too";
+    WellFormed no_setting::fine_delay_240_well_formed, "clock every_fine_delay" "fresh":
+        "byte 240 in register 1 is well formed";
+    Read no_setting::any_fine_delay_read, "clock every_fine_delay" "registers ill_formed":
+        "a read does not refuse a state whose fine delays have no setting";
+    Write no_setting::any_fine_delay_written, "registers no_setting" "registers table"
+        "lists keeps_settings":
+        "registers 0 and 1 store any byte: refusal 17 is forgotten";
+    Write no_setting::refused_fine_delay_stored, "registers no_setting" "registers table"
+        "lists keeps_settings":
+        "a write that is refused by 17 stores its byte";
+    Write no_setting::coarse_delay_refused, "registers no_setting" "registers table":
+        "a write of 240 and more to register 2 is refused by 17";
+    Write no_setting::fine_delay_before_state, "registers no_setting" "clock every_fine_delay":
+        "refusal 17 comes before 2";
+    Receive no_setting::received_delay_stored, "receive":
+        "a whole frame with a byte of no setting stores it, with verdict 2";
+    RunBlock no_setting::block_on_any_fine_delay, "blocks no_setting" "blocks refusals":
+        "a block does not refuse a receiver whose fine delays have no setting";
+    RunBlock no_setting::verdict_10_recorded_as_2, "blocks no_setting":
+        "the code of a record has verdict 2 instead of 10";
+    ReportInput no_setting::verdict_10_without_word, "reports no_setting":
+        "a line with verdict 10 is printed with - instead of its word";
+    ReportInput no_setting::verdict_10_printed_as_a, "reports no_setting":
+        "verdict 10 is printed as a hexadecimal digit";
+    ReportInput no_setting::longest_line_of_34_bytes, "reports no_setting" "reports rooms":
+        "34 bytes are taken as room for any line";
+
     // Registers.
     Read registers::register_before_state, "registers":
         "refusal 5 comes before 2 in a read";
@@ -212,7 +264,7 @@ table! {
     ReportInput reports::no_room_wanted, "reports":
         "room_wanted is 0 where input is left";
     ReportInput reports::room_always_wanted, "reports":
-        "room_wanted is 34 although all was used";
+        "room_wanted is 35 although all was used";
     ReportInput reports::line_numbers_from_0, "reports":
         "line numbers count from 0";
     ReportInput reports::receiver_of_id_5_only, "reports":
@@ -220,5 +272,5 @@ table! {
     ReportEnd reports::last_line_forgotten, "reports":
         "a last line without line feed is not reported";
     ReportEnd reports::end_wants_a_line, "reports":
-        "room_wanted of the end is 34";
+        "room_wanted of the end is 35";
 }

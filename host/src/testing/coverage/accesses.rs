@@ -7,7 +7,7 @@ use crate::testing::calls::Call;
 
 /// The kinds of calls, refused ones by their numbers of refusal.
 pub const KINDS: (&str, u8, u8) =
-    ("call (clock, clock 1, read, read 5, write, write 5, write 6, write 7)", 0, 7);
+    ("call (clock, clock 1, read, read 5, write, write 5, write 6, write 7, write 17)", 0, 8);
 
 /// The kind of a call with a well-formed state.
 pub fn kind(call: Call) -> u8 {
@@ -15,6 +15,7 @@ pub fn kind(call: Call) -> u8 {
         (Call::Read { .. }, 0) => 2,
         (Call::Read { .. }, _) => 3,
         (Call::Write { .. }, 0) => 4,
+        (_, 17) => 8,
         (_, refusal) => refusal,
     }
 }
@@ -31,6 +32,7 @@ tallies! {
         cleared: [("whole counter cleared by a write to (8, 9, 10, 24 to 28)", 0, 7), WITHIN],
         config: [("Config", 2, 3), ("bit 7 before", 0, 1), ("after", 0, 1)],
         modes: [("mode written", 0, 3), LEFT],
+        delays: [("fine delay register", 0, 1), ("byte (under 239, 239, 240, over)", 0, 3), WITHIN],
     }
 }
 
@@ -47,10 +49,11 @@ impl Accesses {
         match call {
             Call::Clock { .. } => {}
             Call::Read { number } => self.numbers.seen([0, number, within]),
-            Call::Write { number, .. } => {
+            Call::Write { number, value } => {
                 self.numbers.seen([1, number, within]);
                 self.cleared(number, &before.core, within);
                 self.settings(number, &before.core, &after.core);
+                self.delays(number, value, within);
             }
         }
     }
@@ -69,6 +72,19 @@ impl Accesses {
         };
         if !bytes.contains(&0) {
             self.cleared.seen([place, within]);
+        }
+    }
+
+    /// A write to a fine delay register, the byte at the edge of those that belong to a setting.
+    fn delays(&mut self, number: u8, value: u8, within: u8) {
+        let byte = match value {
+            0..=238 => 0,
+            239 => 1,
+            240 => 2,
+            _ => 3,
+        };
+        if number < 2 {
+            self.delays.seen([number, byte, within]);
         }
     }
 

@@ -5,7 +5,7 @@ mod quiet;
 mod tally;
 
 use super::verdict;
-use crate::sys::{ClockAnswer, Receiver};
+use crate::sys::{ClockAnswer, Receiver, REFUSED_FINE_DELAY};
 use crate::tallies;
 pub use accesses::{kind, Accesses, KINDS};
 pub use quiet::Quiet;
@@ -13,7 +13,7 @@ pub use tally::{assert_seen, Seen, Tally};
 
 tallies! {
     struct Tallies {
-        refusals: [("refusal", 0, 7)],
+        refusals: [("refusal (8 for 17)", 0, 8)],
         verdicts: [verdict::ANY, ("trigger", 0, 1), ("words left", 0, 2)],
         corrected: [verdict::GOOD, ("corrected flag", 0, 1)],
         kinds: [("long", 0, 1), ("error verdict", 7, 8)],
@@ -22,11 +22,13 @@ tallies! {
         modes: [("trigger in mode", 0, 3)],
         flags: [("flag (trigger, missed, corrected)", 0, 2), ("value", 0, 1)],
         status5: [("status bit 5 before", 0, 1), ("after", 0, 1)],
-        single_top: [("corrected frame at 65535 single errors, verdict", 1, 6)],
+        single_top: [("corrected at 65535 single errors, last digit of the verdict", 0, 6)],
         double_top: [("double errors stay at 255, verdict", 7, 9)],
         top_resets: [("RESET clears the top of (single, double)", 0, 1)],
         wraps: [("wrap of (bunch, event)", 0, 1), ("words left", 0, 2)],
         registers: [("register", 0, 3), ("own address", 0, 1)],
+        no_setting: [("no setting, register", 0, 1), ("own address", 0, 1), ("corrected", 0, 1)],
+        received: [("verdict 10, not 2", 0, 1), ("fine delay data over 239 as received", 0, 1)],
         control: [("mode written, trigger", 0, 1), ("words left", 0, 2)],
         starts: [("mode written on the trigger of mode", 0, 3)],
         clears: [("broadcast bits", 0, 3), ("trigger", 0, 1), ("left", 0, 2)],
@@ -42,7 +44,11 @@ pub struct Coverage {
 
 impl Coverage {
     pub fn refusal(&mut self, refusal: u8) {
-        self.tallies.refusals.seen([refusal]);
+        let place = match refusal {
+            REFUSED_FINE_DELAY => 8,
+            _ => refusal,
+        };
+        self.tallies.refusals.seen([place]);
     }
 
     /// A run begins at another state: the clock before was not of it.
@@ -96,10 +102,12 @@ impl Coverage {
 
     fn frame(&mut self, before: &Receiver, answer: &ClockAnswer) {
         let out = &answer.outputs;
-        match out.verdict {
-            1..=6 => self.tallies.corrected.seen([out.verdict, out.corrected]),
-            7 | 8 => self.tallies.kinds.seen([(before.held.count > 15).into(), out.verdict]),
-            _ => {}
+        if verdict::is_good(out.verdict) {
+            let digit = verdict::last_digit(out.verdict);
+            self.tallies.corrected.seen([digit, out.corrected]);
+        }
+        if matches!(out.verdict, 7 | 8) {
+            self.tallies.kinds.seen([(before.held.count > 15).into(), out.verdict]);
         }
         match out.verdict {
             1 => {
@@ -107,9 +115,30 @@ impl Coverage {
                 self.tallies.clears.seen([out.word as u8 % 4, out.trigger, left]);
             }
             2 => self.write(before, answer),
+            10 => self.no_setting(answer),
             _ => {}
         }
+        self.received_data(before, answer);
         self.tops(before, answer);
+    }
+
+    /// A frame of which nothing was stored.
+    fn no_setting(&mut self, answer: &ClockAnswer) {
+        let out = &answer.outputs;
+        let register = (out.word >> 8) as u8;
+        let own = out.word >> 18 != 0;
+        self.tallies.no_setting.seen([register, own.into(), out.corrected]);
+    }
+
+    /// Data for a fine delay, stored or not, as they came before any correction: they stand before
+    /// the 7 check bits.
+    fn received_data(&mut self, before: &Receiver, answer: &ClockAnswer) {
+        let out = &answer.outputs;
+        let fine = matches!(out.word >> 8 & 0xFF, 0 | 1);
+        if fine && matches!(out.verdict, 2 | 10) {
+            let over = before.held.bits >> 7 & 0xFF > 239;
+            self.tallies.received.seen([(out.verdict == 10).into(), over.into()]);
+        }
     }
 
     /// The error counters that were at their tops before a frame: they stay there, or RESET clears
@@ -121,7 +150,7 @@ impl Coverage {
         if errors.single_errors == 65535 {
             assert_eq!(after.single_errors, if reset { 0 } else { 65535 });
             if corrected == 1 {
-                self.tallies.single_top.seen([verdict]);
+                self.tallies.single_top.seen([verdict::last_digit(verdict)]);
             }
             if reset {
                 self.tallies.top_resets.seen([0]);

@@ -1,5 +1,5 @@
-//! States at the edges of "Well formed" of document 01, clause by clause, and of what Q-1 of
-//! document 02 adds.
+//! States at the edges of "Well formed" of document 01, clause by clause, and of what of
+//! document 02 add.
 
 use super::well_formed;
 use crate::sys::{Core, Held, Receiver, Sequence};
@@ -44,19 +44,12 @@ const NUMBERS: [Change; 10] = [
 ];
 
 /// No clause limits these.
-const FREE: [Change; 6] = [
-    ("fine delays 255", true, |core| fine_delays(core, 255)),
-    ("fine delays 240", true, |core| fine_delays(core, 240)),
+const FREE: [Change; 4] = [
     ("coarse delay 255", true, |core| core.settings.coarse = 255),
     ("control 255", true, |core| core.settings.control = 255),
     ("single errors 65535", true, |core| core.errors.single_errors = 65535),
     ("double errors 255", true, |core| core.errors.double_errors = 255),
 ];
-
-fn fine_delays(core: &mut Core, byte: u8) {
-    core.settings.fine1 = byte;
-    core.settings.fine2 = byte;
-}
 
 /// An ID or a number at its edge.
 pub fn numbers(random: &mut Random) -> Vec<Edge> {
@@ -81,6 +74,26 @@ pub fn config_bytes(random: &mut Random) -> Vec<Edge> {
         state.core.settings.config3 = byte;
         let (name, good) = ("Config 3", byte == 0xA7 || byte == 0x27);
         edges.push(Edge { name, good, state });
+    }
+    edges
+}
+
+/// Every byte in one fine delay register, in the other, and in both: good if it has a setting.
+pub fn fine_delays(random: &mut Random) -> Vec<Edge> {
+    let mut edges = Vec::new();
+    for byte in 0..=255 {
+        let good = byte < 240;
+        for (name, first, second) in [
+            ("fine delay 1", Some(byte), None),
+            ("fine delay 2", None, Some(byte)),
+            ("both fine delays", Some(byte), Some(byte)),
+        ] {
+            let mut state = well_formed(random);
+            let settings = &mut state.core.settings;
+            settings.fine1 = first.unwrap_or(settings.fine1);
+            settings.fine2 = second.unwrap_or(settings.fine2);
+            edges.push(Edge { name, good, state });
+        }
     }
     edges
 }
@@ -161,11 +174,11 @@ pub fn ones_wanted(random: &mut Random) -> Vec<Edge> {
 }
 
 /// How many edges all clauses have, at the least.
-pub const STATES: u64 = 25 + 2 * 256 + 8 * 256 + 193 * 256 + 10 * 256;
+pub const STATES: u64 = 23 + 2 * 256 + 3 * 256 + 8 * 256 + 193 * 256 + 10 * 256;
 
 /// The edges of all clauses.
 pub fn all(random: &mut Random) -> Vec<Edge> {
-    let clauses = [numbers, config_bytes, words_left, held_bits, ones_wanted];
+    let clauses = [numbers, config_bytes, fine_delays, words_left, held_bits, ones_wanted];
     let edges = clauses.map(|edges| edges(random));
     edges.concat()
 }

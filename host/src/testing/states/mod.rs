@@ -2,6 +2,7 @@
 
 pub mod edges;
 
+use super::calls::LAST_DELAY_BYTE;
 use super::frame::{wanting, RUN};
 use super::random::Random;
 use super::traffic;
@@ -41,10 +42,13 @@ fn sequence(random: &mut Random) -> Sequence {
     }
 }
 
+/// Fine delays are bytes of a setting.
 fn settings(random: &mut Random) -> Settings {
+    let mut fine = || below(random, u64::from(LAST_DELAY_BYTE) + 1) as u8;
+    let (fine1, fine2) = (fine(), fine());
     Settings {
-        fine1: random.byte(),
-        fine2: random.byte(),
+        fine1,
+        fine2,
         coarse: random.byte(),
         control: random.byte(),
         config2: random.byte() & 0x80 | 0x05,
@@ -120,7 +124,13 @@ pub fn garbage(random: &mut Random) -> Receiver {
     }
 }
 
-/// The first state with some parts exchanged for those of the second.
+/// A byte that belongs to no fine delay setting.
+fn no_setting(random: &mut Random) -> u8 {
+    LAST_DELAY_BYTE + 1 + random.byte() % 16
+}
+
+/// The first state with some parts exchanged for those of the second, and sometimes with fine delays
+/// of no setting.
 pub fn mixed(random: &mut Random, mut first: Receiver, second: &Receiver) -> Receiver {
     let mut seldom = || random.once_in(6);
     let (core, other) = (&mut first.core, &second.core);
@@ -144,6 +154,12 @@ pub fn mixed(random: &mut Random, mut first: Receiver, second: &Receiver) -> Rec
     }
     if random.once_in(12) {
         first.held.ones_wanted = second.held.ones_wanted;
+    }
+    if random.once_in(16) {
+        first.core.settings.fine1 = no_setting(random);
+    }
+    if random.once_in(16) {
+        first.core.settings.fine2 = no_setting(random);
     }
     first
 }

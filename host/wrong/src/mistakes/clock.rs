@@ -135,7 +135,7 @@ pub fn status_not_set_by_8(receiver: Receiver, trigger: u8, data: u8) -> ClockAn
 
 pub fn double_errors_wrap(receiver: Receiver, trigger: u8, data: u8) -> ClockAnswer {
     let mut answer = Model.clock(receiver, trigger, data);
-    if answer.outputs.verdict >= VERDICT_STOP_BIT {
+    if matches!(answer.outputs.verdict, VERDICT_STOP_BIT..=VERDICT_FIXED_BIT) {
         let before = receiver.core.errors.double_errors;
         answer.receiver.core.errors.double_errors = before.wrapping_add(1);
     }

@@ -5,6 +5,7 @@ pub mod blocks;
 pub mod clock;
 pub mod frames;
 pub mod lines;
+pub mod no_setting;
 pub mod quiet;
 pub mod registers;
 pub mod reports;

@@ -218,7 +218,7 @@ pub fn block_hunts_at_once(
     BlockOutcome { refusal: ACCEPTED, records }
 }
 
-/// The verdict of a line's text; none where the line is refused.
+/// The verdict of a line's text; none where the line is refused, or where it has two digits.
 fn verdict(text: &[u8]) -> Option<u8> {
     match text.split(|&byte| byte == b' ').nth(1)? {
         [digit] => digit.checked_sub(b'0'),
