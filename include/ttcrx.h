@@ -63,7 +63,7 @@ uint32_t ttcrx_version(void);
 #define TTCRX_REFUSED_LINE_BUFFER 14   /* a buffer too small for a line: under 5 or 12 bytes */
 #define TTCRX_REFUSED_BLOCK_LENGTH 15  /* a block of more than TTCRX_BLOCK_CLOCKS bytes */
 #define TTCRX_REFUSED_RECORD_BUFFER 16 /* fewer than five numbers of room for each byte of a block */
-#define TTCRX_REFUSED_FINE_DELAY 17    /* a write to 0 or 1: the byte belongs to no fine delay setting */
+#define TTCRX_REFUSED_NO_SETTING 17    /* a write to 0 or 1: the byte belongs to no fine delay setting */
 
 /*
  * Verdicts on a finished frame, the field verdict of a clock's outputs. 1 to 4 were executed; 7 to 9

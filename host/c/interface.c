@@ -219,7 +219,7 @@ static void check_delay_writes(void)
     int byte;
     for (byte = 239; byte < 256; byte++) {
         const uint8_t value = (uint8_t)byte;
-        const uint8_t refusal = byte < 240 ? TTCRX_ACCEPTED : TTCRX_REFUSED_FINE_DELAY;
+        const uint8_t refusal = byte < 240 ? TTCRX_ACCEPTED : TTCRX_REFUSED_NO_SETTING;
         const uint8_t kept = byte < 240 ? value : 0;
         CHECK(write_is(ttcrx_write(fresh_5, 0, value), refusal, delaying(kept, 0)));
         CHECK(write_is(ttcrx_write(fresh_5, 1, value), refusal, delaying(0, kept)));

@@ -22,7 +22,7 @@ pub const REFUSED_FIELD: u8 = 13;
 pub const REFUSED_LINE_BUFFER: u8 = 14;
 pub const REFUSED_BLOCK_LENGTH: u8 = 15;
 pub const REFUSED_RECORD_BUFFER: u8 = 16;
-pub const REFUSED_FINE_DELAY: u8 = 17;
+pub const REFUSED_NO_SETTING: u8 = 17;
 
 pub const VERDICT_NONE: u8 = 0;
 pub const VERDICT_BROADCAST: u8 = 1;

@@ -119,7 +119,7 @@ fn refusals() -> Vec<(&'static str, u8)> {
         ("REFUSED_LINE_BUFFER", ttcrx::write_short(1, &mut []).refusal),
         ("REFUSED_BLOCK_LENGTH", idle_block(clocks + 1, numbers + 5).refusal),
         ("REFUSED_RECORD_BUFFER", idle_block(clocks, numbers - 1).refusal),
-        ("REFUSED_FINE_DELAY", ttcrx::write(fresh(), 1, 240).refusal),
+        ("REFUSED_NO_SETTING", ttcrx::write(fresh(), 1, 240).refusal),
     ]
 }
 

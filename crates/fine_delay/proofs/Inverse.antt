@@ -21,7 +21,7 @@ byte-of-setting : (byte : ℕ) → byte < 240 → byteOf (settingOf byte) ≡ by
 unfolding byteOf settingOf
 byte-of-setting byte h = eqb-true (byteOf (settingOf byte)) byte (below 240 (λ (i : ℕ). eqb (byteOf (settingOf i)) i) refl byte h)
 
-pub byte-below : (k : ℕ) → k < 240 → byteOf k < 240
+byte-below : (k : ℕ) → k < 240 → byteOf k < 240
 unfolding byteOf
 byte-below k h = ltb-true (byteOf k) 240 (below 240 (λ (i : ℕ). ltb (byteOf i) 240) refl k h)
 

@@ -6,11 +6,10 @@ use borrow.Author.Tests.{lt-ltb, le-ltb, ltb-true, ltb-false}
 use native.Mathlib.Omega.{arith}
 use Rattle.laws.proofs.Rules.{by-test}
 use lib.Dec.{ltb}
-use Rattle.fine_delay.specs.declared.DelayByte.{DelayByte}
 use Rattle.fine_delay.specs.declared.DelaySetting.{DelaySetting}
-use Rattle.fine_delay.specs.Delay.{byteOf, hasSetting, settingToByte, byteToSetting}
+use Rattle.fine_delay.specs.Delay.{hasSetting, settingToByte, byteToSetting}
 use Rattle.fine_delay.specs.Laws.{DelayLaws, SettingLaws}
-use Rattle.fine_delay.proofs.Inverse.{byte-answer, setting-answer, byte-below, byte-back}
+use Rattle.fine_delay.proofs.Inverse.{byte-answer, setting-answer, byte-back}
 
 refused-9 : (byte : ℕ) → 239 < byte → byteToSetting byte ≡ record { refusal = 9; setting = 0 }
 unfolding byteToSetting hasSetting
@@ -36,16 +35,6 @@ from : (byte : ℕ) → hasSetting byte ≡ false → 240 ≤ byte
 unfolding hasSetting
 from byte e = ltb-false byte 240 e
 
--- the byte of a setting is below 240
-no-other : (byte k : ℕ) → settingToByte k ≡ record { refusal = 0; byte = byte } → hasSetting byte ≡ true
-unfolding hasSetting
-no-other byte k e =
-    by-test (ltb 239 k)
-    (λ t. absurd (let z : _≡_ {A = ℕ} 8 0 = sym (ap (λ (a : DelayByte). a .refusal) (delay-laws .refused-by-8 k (ltb-true 239 k t))) ∙ ap (λ (a : DelayByte). a .refusal) e in omega arith))
-    (λ t. let small : k ≤ 239 = ltb-false 239 k t in
-    let is : byteOf k ≡ byte = sym (ap (λ (a : DelayByte). a .byte) (delay-laws .byte-is k small)) ∙ ap (λ (a : DelayByte). a .byte) e in
-    lt-ltb byte 240 (rw (sym is) (byte-below k (omega arith))))
-
 pub setting-laws : SettingLaws
 unfolding hasSetting
 setting-laws =
@@ -56,7 +45,6 @@ setting-laws =
         gives-byte = ap settingToByte (sym (ap (λ (a : DelaySetting). a .setting) (setting-answer byte (below byte e)))) ∙ byte-back byte (below byte e) .1;
         gives-setting = setting-answer byte (below byte e);
       };
-      no-other = no-other;
       nine-exactly = λ byte. (
         λ e. ap (λ (a : DelaySetting). a .refusal) (refused-9 byte (omega (arith, from byte e))),
         λ e. by-test (ltb byte 240)

@@ -25,9 +25,7 @@ pub record SettingLaws : Type 0 where
   -- "Bytes 240..255 belong to no setting", and all others belong to one
   pub below-240 : (byte : ℕ) → (hasSetting byte ≡ true) ↔ (byte < 240)
   pub from-240 : (byte : ℕ) → (hasSetting byte ≡ false) ↔ (240 ≤ byte)
-  -- which is named by "K = (15m + 16n + 30) mod 240"
+  -- which is named by "K = (15m + 16n + 30) mod 240"; that no setting has another byte is `NoSettingBeyond` of Inverse.antt
   pub setting-named : (byte : ℕ) → hasSetting byte ≡ true → IsByteOf byte (settingOf byte)
-  -- no setting has another byte
-  pub no-other : (byte k : ℕ) → settingToByte k ≡ record { refusal = 0; byte = byte } → hasSetting byte ≡ true
   -- the bytes without a setting are those that 9 refuses
   pub nine-exactly : (byte : ℕ) → (hasSetting byte ≡ false) ↔ (byteToSetting byte .refusal ≡ 9)

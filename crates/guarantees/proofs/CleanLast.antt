@@ -29,6 +29,10 @@ use Rattle.verdicts.specs.Laws.{VerdictLaws}
 use Rattle.guarantees.specs.Calls.{CallResult, result}
 use Rattle.guarantees.specs.LastClock.{ShortEffect, LongEffect, EffectOf, OthersSame, rowMayChange, CleanLast}
 
+-- what is 10 is no other verdict
+pub ten-not : {v n : ℕ} → v ≡ 10 → v ≡ n → (_≡_ {A = ℕ} 10 n → ⊥) → ⊥
+ten-not v z no-ten = no-ten (sym v ∙ z)
+
 -- ---- the effects, by the word and by the fields
 
 short-effect : (fields : Fields) (shown : Outputs) (idle after : Core) → shown .verdict ≡ 1 → shown .word ≡ wordOf Short fields
@@ -57,9 +61,6 @@ long-effect fields shown idle after range w m fresh =
   where
     two-not-three : shown .verdict ≡ 2 → shown .verdict ≢ 3
     two-not-three v z = omega arith
-
-    ten-not : {n : ℕ} → shown .verdict ≡ 10 → shown .verdict ≡ n → (_≡_ {A = ℕ} 10 n → ⊥) → ⊥
-    ten-not v z no-ten = no-ten (sym v ∙ z)
 
 -- the number is a frame, and decodes to these fields without a correction
 pub record DecodesTo (columns : Kind → List ℕ) (kind : Kind) (number flag : ℕ) (fields : Fields) : Type 0 where

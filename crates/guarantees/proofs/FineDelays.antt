@@ -10,8 +10,8 @@ use Rattle.laws.specs.OneOf.{oneOf}
 use Rattle.laws.proofs.Rules.{picked}
 use Rattle.fine_delay.specs.declared.DelaySetting.{DelaySetting}
 use Rattle.fine_delay.specs.Delay.{settingOf, hasSetting, settingToByte}
-use Rattle.fine_delay.proofs.Laws.{delay-laws, setting-laws}
-use Rattle.fine_delay.proofs.Inverse.{setting-back}
+use Rattle.fine_delay.proofs.Laws.{setting-laws}
+use Rattle.fine_delay.proofs.Inverse.{setting-back, no-setting-beyond}
 use Rattle.frame.specs.declared.Kind.{Kind}
 use Rattle.frame.specs.declared.Kind.the-variants.{Long}
 use Rattle.frame.specs.declared.Fields.{Fields}
@@ -26,7 +26,7 @@ use Rattle.receiver_state.specs.WellFormed.{wellFormed}
 use Rattle.receiver_state.proofs.WellFormed.{receiver-facts}
 use Rattle.receiver_state.proofs.States.{fresh-laws}
 use Rattle.register_map.specs.Map.{inMap, registerByte}
-use Rattle.register_map.specs.Laws.{DelayRegister, NoSetting}
+use Rattle.register_map.specs.Laws.{DelayRegister, ByteWithoutSetting}
 use Rattle.register_map.proofs.Stored.{store-laws}
 use Rattle.registers.specs.declared.WriteAnswer.{WriteAnswer}
 use Rattle.registers.proofs.Laws.{read-laws, write-laws}
@@ -36,6 +36,7 @@ use Rattle.guarantees.specs.Calls.{Call, clock, CallResult, run}
 use Rattle.guarantees.specs.FrameLists.{lastCall}
 use Rattle.guarantees.specs.LastClock.{OthersSame, rowMayChange, correctionMayChange, CleanLast, CorrectedLast}
 use Rattle.guarantees.specs.FineDelays as fine
+use Rattle.guarantees.proofs.CleanLast.{ten-not}
 use Rattle.guarantees.proofs.Demand3.{demand3-theorem}
 
 -- ---- a well-formed state
@@ -65,15 +66,15 @@ low number = ⊎-elim (λ n. omega arith) (λ n. omega arith)
 -- the byte of a setting has it
 of-setting : (k : ℕ) → k ≤ 239 → (hasSetting (settingToByte k .byte) ≡ true) × (settingOf (settingToByte k .byte) ≡ k)
 of-setting k h =
-    let back = setting-back k (omega arith) in
-    let has = setting-laws .no-other (settingToByte k .byte) k (delay-laws .byte-is k h ∙ sym (ap (λ (byte : ℕ). record { refusal = 0; byte = byte }) (ap (λ a. a .byte) (delay-laws .byte-is k h)))) in
-    (has, ap (λ (a : DelaySetting). a .setting) (sym (setting-laws .setting-named (settingToByte k .byte) has .gives-setting) ∙ back .1))
+    let has = setting-laws .below-240 (settingToByte k .byte) .1 (no-setting-beyond k (omega arith)) in
+    let named = setting-laws .setting-named (settingToByte k .byte) has .gives-setting in
+    (has, ap (λ (a : DelaySetting). a .setting) (sym named ∙ setting-back k (omega arith) .1))
 
 setting-written : fine.SettingWritten
 setting-written r number k e n h =
     let byte = settingToByte k .byte in
     let set = of-setting k h in
-    let can : NoSetting number byte → ⊥ = λ none. omega (arith, none .1, setting-laws .below-240 byte .0 (set .0)) in
+    let can : ByteWithoutSetting number byte → ⊥ = λ none. omega (arith, none .1, setting-laws .below-240 byte .0 (set .0)) in
     let done = write-laws .byte-stored r number byte e (low number n) can in (
       ap (λ (a : WriteAnswer). a .refusal) done,
       ap (λ (a : WriteAnswer). settingOf (registerByte (a .receiver .core) number)) done
@@ -97,10 +98,6 @@ unfolding settingOf
 fresh-setting id i2c number e n = ap settingOf (fresh-byte id i2c number n)
 
 -- ---- frames
-
--- what is 10 is no other verdict
-ten-not : {v n : ℕ} → v ≡ 10 → v ≡ n → (_≡_ {A = ℕ} 10 n → ⊥) → ⊥
-ten-not v z no-ten = no-ten (sym v ∙ z)
 
 not-executed : (v : ℕ) → v ≡ 10 → executed v ≡ false
 unfolding executed oneOf
@@ -150,11 +147,11 @@ flipped-others idle clean done o f =
 
 -- ---- by demand 3
 
-module _ (fields : Fields) (own : Ids) (range : InRange Long fields) (none : fine.ForNoSetting fields (own .id)) where
+module _ (fields : Fields) (own : Ids) (range : InRange Long fields) (none : fine.InternalWithoutSetting fields (own .id)) where
   clean-10 : (idle done : CallResult) → CleanLast Long fields own idle done
       → fine.GetsVerdict10 fields idle done × (done .answer .outputs .corrected ≡ 0) × (done .receiver .core .errors .single ≡ idle .receiver .core .errors .single)
   clean-10 idle done last =
-      let ten = last .verdict-of-row .row-10 (none .ours) (λ one. zero-not-one (sym (none .internal) ∙ one)) (none .no-setting) in (
+      let ten = last .verdict-of-row .row-10 (none .ours) (λ one. zero-not-one (sym (none .internal) ∙ one)) (none .without-setting) in (
         record {
           verdict-10 = ten;
           not-executed = not-executed _ ten;

@@ -19,8 +19,8 @@ use Rattle.receiver_state.specs.declared.Receiver.{Receiver}
 use Rattle.receiver_state.specs.Shown.{noOutputs}
 use Rattle.receiver_state.specs.WellFormed.{wellFormed}
 use Rattle.channel_b.specs.TakeBit.{Waits}
-use Rattle.guarantees.specs.Calls.{Call, clock, read, CallAnswer, CallResult, call, run, answers, refusalOf, channelB, idle}
-use Rattle.guarantees.specs.FrameLists.{Sends, SameCalls, lastCall, AsIdleBefore, OneAfterAnother, WholeList}
+use Rattle.guarantees.specs.Calls.{Call, clock, read, CallAnswer, call, run, answers, refusalOf, channelB}
+use Rattle.guarantees.specs.FrameLists.{Sends, SameCalls, lastCall, idleLast, AsIdleBefore, OneAfterAnother, WholeList}
 use Rattle.guarantees.specs.LastClock.{withFrame, withCorrection, withDoubleError, CleanLast, CorrectedLast, UncorrectableLast}
 
 module _ (columns : Kind → List ℕ) where
@@ -61,15 +61,11 @@ module _ (columns : Kind → List ℕ) where
   abbrev encoded : Kind → Fields → ℕ
   encoded kind fields = encodeFields (columns kind) kind fields
 
-  -- what the idle list's last clock leaves and answers
-  abbrev idleLast : Receiver → List Call → ℕ → CallResult
-  idleLast r before trigger = lastCall columns r (idle before) (clock trigger 1)
-
   -- "no earlier clock finishes a frame, and the last gives it the fate that document 01's table gives its fields"
   pub record CleanFrame (r : Receiver) (before : List Call) (trigger bit : ℕ) (kind : Kind) (fields : Fields) : Type 0 where
     pub as-idle-before : AsIdleBefore columns r before
-    pub whole : lastCall columns r before (clock trigger bit) ≡ withFrame kind (fieldsAnswer kind 0 fields) (idleLast r before trigger)
-    pub by-name : CleanLast kind fields (r .core .ids) (idleLast r before trigger) (lastCall columns r before (clock trigger bit))
+    pub whole : lastCall columns r before (clock trigger bit) ≡ withFrame kind (fieldsAnswer kind 0 fields) (idleLast columns r before trigger)
+    pub by-name : CleanLast kind fields (r .core .ids) (idleLast columns r before trigger) (lastCall columns r before (clock trigger bit))
 
   abbrev pub Clean : Type 0
   Clean =
@@ -95,8 +91,8 @@ module _ (columns : Kind → List ℕ) where
 
   pub record TwoFlipsFrame (r : Receiver) (before : List Call) (trigger bit : ℕ) : Type 0 where
     pub as-idle-before : AsIdleBefore columns r before
-    pub whole : lastCall columns r before (clock trigger bit) ≡ withDoubleError (idleLast r before trigger)
-    pub by-name : UncorrectableLast (idleLast r before trigger) (lastCall columns r before (clock trigger bit))
+    pub whole : lastCall columns r before (clock trigger bit) ≡ withDoubleError (idleLast columns r before trigger)
+    pub by-name : UncorrectableLast (idleLast columns r before trigger) (lastCall columns r before (clock trigger bit))
 
   -- "With two flipped": p and q
   abbrev pub TwoFlips : Type 0

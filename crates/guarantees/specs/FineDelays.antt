@@ -21,8 +21,8 @@ use Rattle.register_map.specs.Laws.{DelayRegister}
 use Rattle.registers.specs.Access.{byteAnswer, readAnswer, writeAnswer}
 use Rattle.verdicts.specs.Table.{executed}
 use Rattle.verdicts.specs.FrameLaws.{Ours, DataWithoutSetting, OneHigher}
-use Rattle.guarantees.specs.Calls.{Call, clock, CallResult, run, idle}
-use Rattle.guarantees.specs.FrameLists.{Sends, SameCalls, lastCall}
+use Rattle.guarantees.specs.Calls.{Call, clock, CallResult, run}
+use Rattle.guarantees.specs.FrameLists.{Sends, SameCalls, lastCall, idleLast}
 use Rattle.guarantees.specs.LastClock.{MayChange, OthersSame}
 
 -- ---- what registers 0 and 1 hold
@@ -50,10 +50,10 @@ FreshSetting =
 -- ---- frames with a byte without a setting
 
 -- "an internal frame with such data for them", for this receiver or for all
-pub record ForNoSetting (fields : Fields) (id : ℕ) : Type 0 where
+pub record InternalWithoutSetting (fields : Fields) (id : ℕ) : Type 0 where
   pub ours : Ours fields id
   pub internal : fields .e ≡ 0
-  pub no-setting : DataWithoutSetting fields
+  pub without-setting : DataWithoutSetting fields
 
 -- beside the idle list: status bit 5, and with a correction the single error counter
 abbrev pub verdict10MayChange : MayChange
@@ -81,34 +81,28 @@ module _ (columns : Kind → List ℕ) where
       (id i2c : ℕ) (calls : List Call) (number : ℕ) → freshAnswer id i2c .refusal ≡ 0 → DelayRegister number
       → HoldsSetting (run columns (freshAnswer id i2c .receiver) calls) number
 
-  abbrev encoded : Fields → ℕ
-  encoded fields = encodeFields (columns Long) Long fields
-
-  abbrev idleLast : Receiver → List Call → ℕ → CallResult
-  idleLast r before trigger = lastCall columns r (idle before) (clock trigger 1)
-
   -- a clean frame: flag 0, and the single error counter stays
   abbrev pub CleanVerdict10 : Type 0
   CleanVerdict10 =
-      (r : Receiver) (before : List Call) (trigger bit : ℕ) (fields : Fields) → InRange Long fields → ForNoSetting fields (r .core .ids .id)
-      → Sends r before trigger bit Long (encoded fields)
+      (r : Receiver) (before : List Call) (trigger bit : ℕ) (fields : Fields) → InRange Long fields → InternalWithoutSetting fields (r .core .ids .id)
+      → Sends r before trigger bit Long (encodeFields (columns Long) Long fields)
       → let done = lastCall columns r before (clock trigger bit) in
-      GetsVerdict10 fields (idleLast r before trigger) done
+      GetsVerdict10 fields (idleLast columns r before trigger) done
       × (done .answer .outputs .corrected ≡ 0)
-      × (done .receiver .core .errors .single ≡ idleLast r before trigger .receiver .core .errors .single)
+      × (done .receiver .core .errors .single ≡ idleLast columns r before trigger .receiver .core .errors .single)
 
   -- one protected bit flipped: flag 1, and "corrected flag and single counter as for verdict 2". The corrected data decide: p may be one of their bits.
   abbrev pub OneFlipVerdict10 : Type 0
   OneFlipVerdict10 =
       (r : Receiver) (clean flipped : List Call) (trigger sent bit : ℕ) (fields : Fields) (p : WrongBit)
-      → InRange Long fields → ForNoSetting fields (r .core .ids .id) → ProtectedIn Long p
-      → Sends r clean trigger sent Long (encoded fields)
-      → Sends r flipped trigger bit Long (flipProtected Long p (encoded fields))
+      → InRange Long fields → InternalWithoutSetting fields (r .core .ids .id) → ProtectedIn Long p
+      → Sends r clean trigger sent Long (encodeFields (columns Long) Long fields)
+      → Sends r flipped trigger bit Long (flipProtected Long p (encodeFields (columns Long) Long fields))
       → SameCalls clean flipped
       → let done = lastCall columns r flipped (clock trigger bit) in
-      GetsVerdict10 fields (idleLast r flipped trigger) done
+      GetsVerdict10 fields (idleLast columns r flipped trigger) done
       × (done .answer .outputs .corrected ≡ 1)
-      × OneHigher 65535 (idleLast r flipped trigger .receiver .core .errors .single) (done .receiver .core .errors .single)
+      × OneHigher 65535 (idleLast columns r flipped trigger .receiver .core .errors .single) (done .receiver .core .errors .single)
 
   pub record FineDelayLaws : Type 0 where
     pub always-settings : AlwaysSettings

@@ -29,6 +29,10 @@ module _ (columns : Kind → List ℕ) where
   unfoldable pub lastCall : Receiver → List Call → Call → CallResult
   lastCall r before last = call columns (run columns r before) last
 
+  -- what the idle list's last clock leaves and answers
+  abbrev pub idleLast : Receiver → List Call → ℕ → CallResult
+  idleLast r before trigger = lastCall r (idle before) (clock trigger 1)
+
   -- "each clock before the last has verdict 0, and all outputs, bytes read and refusals before the last clock equal the idle list's"; the state too,
   -- but for the frame bits held and the ones wanted
   pub record AsIdleBefore (r : Receiver) (before : List Call) : Type 0 where

@@ -152,12 +152,13 @@ longLine = linePart 11 (49 ∷ 48 ∷ 48 ∷ 49 ∷ 53 ∷ 48 ∷ 48 ∷ 70 ∷ 
 abbrev pub fullReceiver : Receiver
 fullReceiver = receiver (withErrors (errors 65535 255 1) (withCounters (counters 1000 (2 ^ 24 - 1)) (freshCore (ids 5 5)))) nothingHeld
 
--- Both parts of the bounds are reached. Proved in proofs/Longest.antt.
+-- `longestLine` is reached. `longestEnd` is a sum of two parts, and each is reached; no end has both, so none has 66 bytes. (That is not proved; the
+-- one below has 63.) Proved in proofs/Longest.antt.
 pub record LongestReached : Type 0 where
   -- by line 18446744073709551615
   pub line : length (bytePrints columnsOf (report ownReceiver (2 ^ 64 - 2) longLine) 10) ≡ longestLine
-  -- by the largest numbers of these types, which only a receiver that is not well formed has; it would refuse the line
+  -- the counts, by the largest numbers of their types, which only a receiver that is not well formed has; it refuses the line
   pub counts : longestLine + length (endText (2 ^ 16 - 1) (2 ^ 8 - 1) (2 ^ 32 - 1) (2 ^ 16 - 1)) ≡ longestEnd
-  -- so both do not come in one end; a well-formed receiver has one of 63 bytes
+  -- the end of a well-formed receiver
   pub full-is-well-formed : wellFormed fullReceiver ≡ true
   pub last-line : length (endPrints columnsOf (report fullReceiver (2 ^ 64 - 2) longLine)) ≡ 63

@@ -17,7 +17,7 @@ use Rattle.fine_delay.proofs.Laws.{setting-laws}
 use Rattle.receiver_state.specs.declared.Core.{Core}
 use Rattle.register_map.specs.Map.{mapNumbers, inMap, registerByte, withoutSetting}
 use Rattle.register_map.specs.Change.{clearBunch, clearEvent}
-use Rattle.register_map.specs.Laws.{gaps, MapLaws, ByteLaws, DelayRegister, NoSetting, WithoutSettingLaw, ClearLaws}
+use Rattle.register_map.specs.Laws.{gaps, MapLaws, ByteLaws, DelayRegister, ByteWithoutSetting, WithoutSettingLaw, ClearLaws}
 
 -- ---- the numbers of the map
 
@@ -58,19 +58,19 @@ below-2 zero h = inl refl
 below-2 (suc zero) h = inr refl
 below-2 (suc (suc number)) h = absurd (omega arith)
 
-no-setting : (number byte : ℕ) → withoutSetting number byte ≡ true → NoSetting number byte
+byte-without : (number byte : ℕ) → withoutSetting number byte ≡ true → ByteWithoutSetting number byte
 unfolding withoutSetting
-no-setting number byte e =
+byte-without number byte e =
     let b = both-hold number _ _ e in
     (below-2 number (b .0), setting-laws .from-240 byte .0 (not-true (hasSetting byte) (b .1)))
 
-is-without : (number byte : ℕ) → NoSetting number byte → withoutSetting number byte ≡ true
+is-without : (number byte : ℕ) → ByteWithoutSetting number byte → withoutSetting number byte ≡ true
 unfolding withoutSetting
 is-without number byte (inl n, h) = rw (n, setting-laws .from-240 byte .1 h) refl
 is-without number byte (inr n, h) = rw (n, setting-laws .from-240 byte .1 h) refl
 
 pub without-setting-law : WithoutSettingLaw
-without-setting-law number byte = (no-setting number byte, is-without number byte)
+without-setting-law number byte = (byte-without number byte, is-without number byte)
 
 -- ---- what each register holds
 

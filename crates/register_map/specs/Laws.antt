@@ -51,11 +51,11 @@ abbrev pub DelayRegister : ℕ → Type 0
 DelayRegister number = (number ≡ 0) ⊎ (number ≡ 1)
 
 -- document 02, Q-4: "240 to 255 to registers 0 or 1"
-abbrev pub NoSetting : ℕ → ℕ → Type 0
-NoSetting number byte = DelayRegister number × (240 ≤ byte)
+abbrev pub ByteWithoutSetting : ℕ → ℕ → Type 0
+ByteWithoutSetting number byte = DelayRegister number × (240 ≤ byte)
 
 abbrev pub WithoutSettingLaw : Type 0
-WithoutSettingLaw = (number byte : ℕ) → (withoutSetting number byte ≡ true) ↔ NoSetting number byte
+WithoutSettingLaw = (number byte : ℕ) → (withoutSetting number byte ≡ true) ↔ ByteWithoutSetting number byte
 
 -- ---- what a change leaves
 

@@ -1,5 +1,6 @@
-// Document 01, "Registers": which numbers are registers, what each holds, and what a write to it does
-// to the core. Every function takes any number, byte and core.
+// Document 01, "Registers", with document 02, Q-4: which numbers are registers, what each holds, which
+// bytes may not be written, and what a write does to the core. Every function takes any number, byte
+// and core.
 //
 // The core goes by value, like the state that it belongs to.
 ghost use mathlib.Core.Path.{_≡_};

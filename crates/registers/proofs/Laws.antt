@@ -14,7 +14,7 @@ use Rattle.receiver_state.specs.WellFormed.{wellFormed}
 use Rattle.receiver_state.proofs.WellFormed.{receiver-facts, receiver-ok}
 use Rattle.register_map.specs.Map.{inMap, registerByte, readOnly, withoutSetting, configWrong}
 use Rattle.register_map.specs.Change.{stored, afterWrite}
-use Rattle.register_map.specs.Laws.{DelayRegister, NoSetting}
+use Rattle.register_map.specs.Laws.{DelayRegister, ByteWithoutSetting}
 use Rattle.register_map.proofs.Laws.{without-setting-law}
 use Rattle.register_map.proofs.Keep.{write-keeps, write-changes}
 use Rattle.register_map.proofs.Stored.{below-4, store-laws}
@@ -76,7 +76,7 @@ refused-6 r number value e (inr (inl n)) = rw (e, n) refl
 refused-6 r number value e (inr (inr (inl n))) = rw (e, n) refl
 refused-6 r number value e (inr (inr (inr n))) = rw (e, n) refl
 
-refused-17 : (r : Receiver) (number value : ℕ) → wellFormed r ≡ true → NoSetting number value → writeAnswer r number value ≡ refusedWrite 17 r
+refused-17 : (r : Receiver) (number value : ℕ) → wellFormed r ≡ true → ByteWithoutSetting number value → writeAnswer r number value ≡ refusedWrite 17 r
 unfolding writeAnswer writeRefusal inMap readOnly oneOf
 refused-17 r number value e h = at-register (h .0)
   where
@@ -87,7 +87,7 @@ refused-17 r number value e h = at-register (h .0)
     at-register (inl n) = rw (e, w, n) refl
     at-register (inr n) = rw (e, w, n) refl
 
-byte-stored : (r : Receiver) (number value : ℕ) → wellFormed r ≡ true → number < 4 → (NoSetting number value → ⊥)
+byte-stored : (r : Receiver) (number value : ℕ) → wellFormed r ≡ true → number < 4 → (ByteWithoutSetting number value → ⊥)
     → writeAnswer r number value ≡ writtenTo r (withSettings (stored number value (r .core .settings)) (r .core))
 unfolding writeAnswer writeRefusal afterWrite inMap readOnly configWrong oneOf stored
 byte-stored r number value e h n =
@@ -137,7 +137,7 @@ in-map-4 : (number : ℕ) → number < 4 → inMap number ≡ true
 unfolding inMap oneOf
 in-map-4 number h = below-4 (λ (n : ℕ). inMap n ≡ true) refl refl refl refl number h
 
-others-stay : (r : Receiver) (number value other : ℕ) → wellFormed r ≡ true → number < 4 → (NoSetting number value → ⊥) → other ≢ number
+others-stay : (r : Receiver) (number value other : ℕ) → wellFormed r ≡ true → number < 4 → (ByteWithoutSetting number value → ⊥) → other ≢ number
     → readAfter r number value other ≡ readAnswer r other
 others-stay r number value other e h n d =
     by-test (inMap other)

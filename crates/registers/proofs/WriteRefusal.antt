@@ -8,12 +8,12 @@ use Rattle.register_map.specs.Map.{inMap, readOnly, withoutSetting, configWrong
 use Rattle.registers.specs.Access.{writeRefusal}
 
 -- of each number, the test that gave it: not in the map, read-only, without a setting, a wrong Config byte
-pub record Gave (in-map read-only no-setting wrong : Bool) (n : ℕ) : Type 0 where
-  pub none : n ≡ 0 → (no-setting ≡ false) × (wrong ≡ false)
+pub record Gave (in-map read-only without wrong : Bool) (n : ℕ) : Type 0 where
+  pub none : n ≡ 0 → (without ≡ false) × (wrong ≡ false)
   pub not-two : n ≢ 2
   pub five : n ≡ 5 → in-map ≡ false
   pub six : n ≡ 6 → read-only ≡ true
-  pub seventeen : n ≡ 17 → no-setting ≡ true
+  pub seventeen : n ≡ 17 → without ≡ true
   pub seven : n ≡ 7 → wrong ≡ true
   pub no-other : (n ≡ 0) ⊎ ((n ≡ 2) ⊎ ((n ≡ 5) ⊎ ((n ≡ 6) ⊎ ((n ≡ 17) ⊎ (n ≡ 7)))))
 

@@ -9,7 +9,7 @@ use Rattle.receiver_state.specs.State.{errors, counters, withSettings, withErro
 use Rattle.receiver_state.specs.WellFormed.{wellFormed}
 use Rattle.register_map.specs.Map.{inMap, registerByte}
 use Rattle.register_map.specs.Change.{stored, withConfigs}
-use Rattle.register_map.specs.Laws.{NoSetting}
+use Rattle.register_map.specs.Laws.{ByteWithoutSetting}
 use Rattle.registers.specs.declared.ReadAnswer.{ReadAnswer}
 use Rattle.registers.specs.Access.{byteAnswer, refusedRead, readAnswer, writtenTo, refusedWrite, writeAnswer}
 
@@ -47,8 +47,8 @@ pub record WriteLaws : Type 0 where
   pub refused-by-6 : (r : Receiver) (number value : ℕ) → wellFormed r ≡ true → ReadOnly number → writeAnswer r number value ≡ refusedWrite 6 r
   pub refused-by-7 : (r : Receiver) (number value : ℕ) → wellFormed r ≡ true → ConfigDiffers number value
       → writeAnswer r number value ≡ refusedWrite 7 r
-  pub refused-by-17 : (r : Receiver) (number value : ℕ) → wellFormed r ≡ true → NoSetting number value → writeAnswer r number value ≡ refusedWrite 17 r
-  pub byte-stored : (r : Receiver) (number value : ℕ) → wellFormed r ≡ true → number < 4 → (NoSetting number value → ⊥)
+  pub refused-by-17 : (r : Receiver) (number value : ℕ) → wellFormed r ≡ true → ByteWithoutSetting number value → writeAnswer r number value ≡ refusedWrite 17 r
+  pub byte-stored : (r : Receiver) (number value : ℕ) → wellFormed r ≡ true → number < 4 → (ByteWithoutSetting number value → ⊥)
       → writeAnswer r number value ≡ writtenTo r (withSettings (stored number value (r .core .settings)) (r .core))
   pub single-cleared : (r : Receiver) (number value : ℕ) → wellFormed r ≡ true → SingleByte number
       → writeAnswer r number value ≡ writtenTo r (withErrors (errors 0 (r .core .errors .double) (r .core .errors .status5)) (r .core))
@@ -77,12 +77,12 @@ pub record WriteRefusals : Type 0 where
   pub by-2 : (r : Receiver) (number value : ℕ) → (writeAnswer r number value .refusal ≡ 2) ↔ (wellFormed r ≡ false)
   pub by-5 : (r : Receiver) (number value : ℕ) → wellFormed r ≡ true → (writeAnswer r number value .refusal ≡ 5) ↔ (inMap number ≡ false)
   pub by-6 : (r : Receiver) (number value : ℕ) → wellFormed r ≡ true → (writeAnswer r number value .refusal ≡ 6) ↔ ReadOnly number
-  pub by-17 : (r : Receiver) (number value : ℕ) → wellFormed r ≡ true → (writeAnswer r number value .refusal ≡ 17) ↔ NoSetting number value
+  pub by-17 : (r : Receiver) (number value : ℕ) → wellFormed r ≡ true → (writeAnswer r number value .refusal ≡ 17) ↔ ByteWithoutSetting number value
   pub by-7 : (r : Receiver) (number value : ℕ) → wellFormed r ≡ true → (writeAnswer r number value .refusal ≡ 7) ↔ ConfigDiffers number value
   pub by-no-other : (r : Receiver) (number value : ℕ) → let refusal = writeAnswer r number value .refusal in
       (refusal ≡ 0) ⊎ ((refusal ≡ 2) ⊎ ((refusal ≡ 5) ⊎ ((refusal ≡ 6) ⊎ ((refusal ≡ 17) ⊎ (refusal ≡ 7)))))
   -- document 02, Q-4: "never together with 7"
-  pub never-both : (number value : ℕ) → NoSetting number value → ConfigDiffers number value → ⊥
+  pub never-both : (number value : ℕ) → ByteWithoutSetting number value → ConfigDiffers number value → ⊥
 
 -- ---- what a read gives after a write
 
@@ -91,10 +91,10 @@ abbrev pub readAfter : Receiver → ℕ → ℕ → ℕ → ReadAnswer
 readAfter r number value other = readAnswer (writeAnswer r number value .receiver) other
 
 pub record ReadBack : Type 0 where
-  pub stored-byte : (r : Receiver) (number value : ℕ) → wellFormed r ≡ true → number < 4 → (NoSetting number value → ⊥)
+  pub stored-byte : (r : Receiver) (number value : ℕ) → wellFormed r ≡ true → number < 4 → (ByteWithoutSetting number value → ⊥)
       → readAfter r number value number ≡ byteAnswer 0 value
   -- of the registers, only that one
-  pub others-stay : (r : Receiver) (number value other : ℕ) → wellFormed r ≡ true → number < 4 → (NoSetting number value → ⊥) → other ≢ number
+  pub others-stay : (r : Receiver) (number value other : ℕ) → wellFormed r ≡ true → number < 4 → (ByteWithoutSetting number value → ⊥) → other ≢ number
       → readAfter r number value other ≡ readAnswer r other
   pub config-2 : (r : Receiver) (value : ℕ) → wellFormed r ≡ true → value % 2 ^ 7 ≡ 0x85 % 2 ^ 7 → readAfter r 20 value 20 ≡ byteAnswer 0 value
   pub config-3 : (r : Receiver) (value : ℕ) → wellFormed r ≡ true → value % 2 ^ 7 ≡ 0xA7 % 2 ^ 7 → readAfter r 21 value 21 ≡ byteAnswer 0 value

@@ -18,7 +18,7 @@ use Rattle.receiver_state.specs.declared.Settings.{Settings}
 use Rattle.receiver_state.specs.declared.Errors.{Errors}
 use Rattle.receiver_state.specs.declared.Counters.{Counters}
 use Rattle.receiver_state.specs.declared.Outputs.{Outputs}
-use Rattle.register_map.specs.Laws.{NoSetting}
+use Rattle.register_map.specs.Laws.{ByteWithoutSetting}
 use Rattle.verdicts.specs.Table.{dropped}
 
 -- ---- verdict, flag and word
@@ -29,7 +29,7 @@ Ours fields id = (fields .address ≡ 0) ⊎ (fields .address ≡ id)
 
 -- "such data for" registers 0 and 1: by the corrected fields
 abbrev pub DataWithoutSetting : Fields → Type 0
-DataWithoutSetting fields = NoSetting (fields .sub) (fields .«data»)
+DataWithoutSetting fields = ByteWithoutSetting (fields .sub) (fields .«data»)
 
 -- the rows of a good long frame, each with what those above it leave
 pub record LongVerdict (fields : Fields) (id verdict : ℕ) : Type 0 where

@@ -144,6 +144,8 @@ fn row_verdict(chosen: LongRow) -> u8
     }
 }
 
+// The rows that are not named have no effect on the core. One arm for all of them keeps `finish` small
+// enough to be inlined.
 fn row_effect(chosen: LongRow, fields: Fields, core: Core) -> Core
     ensures { λ r. ⌜ r ≡ rowEffect chosen fields core ⌝ }
 {

@@ -45,7 +45,7 @@ impl Stored {
         Stored::of(bytes)
     }
 
-    /// "Control bits 1..0".
+    /// "control bits 1..0".
     #[inline]
     pub(super) fn mode(&self) -> u8 {
         self.control % 4

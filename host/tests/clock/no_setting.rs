@@ -215,8 +215,8 @@ fn the_corrected_data_decide() {
     both.at_least(2 * 256 * 8 * 3);
 }
 
-/// 7, 8 and 9 come before 10: a stop bit of 0, two wrong bits, fixed bit 0; the first also with each
-/// protected bit wrong, the last with each but with a flag of 0.
+/// 7 and 9 come before 10: a stop bit of 0, and fixed bit 0, each also with every protected bit wrong;
+/// the flag is then 0. 8 is in `every_flip`.
 #[test]
 fn dropped_frames() {
     let both = Both::of("frames without a setting that are dropped");

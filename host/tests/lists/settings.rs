@@ -28,7 +28,7 @@ impl Tallies {
         let register = (out.word >> 8) as u8;
         match (made, out.verdict) {
             (Call::Write { number: number @ (0 | 1), .. }, _) => {
-                let refused = shown.refusal == REFUSED_FINE_DELAY;
+                let refused = shown.refusal == REFUSED_NO_SETTING;
                 self.writes.seen([refused.into(), number]);
             }
             (_, VERDICT_STORED | VERDICT_NO_SETTING) if register < 2 => {

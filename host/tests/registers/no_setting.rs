@@ -1,7 +1,7 @@
 //! Q-4 of document 02, "No delay byte without a setting": writes to registers 0 and 1, and 17 beside
 //! the other refusals.
 
-use ttcrx_host::sys::{Receiver, ACCEPTED, REFUSED_CONFIG, REFUSED_FINE_DELAY};
+use ttcrx_host::sys::{Receiver, ACCEPTED, REFUSED_CONFIG, REFUSED_NO_SETTING};
 use ttcrx_host::sys::{REFUSED_READ_ONLY, REFUSED_REGISTER, REFUSED_STATE};
 use ttcrx_host::testing::compare::Both;
 use ttcrx_host::testing::convert::refused_write;
@@ -18,7 +18,7 @@ fn stored(both: &Both, state: Receiver) -> [u8; 4] {
 /// then hold has a setting.
 fn write(both: &Both, state: Receiver, number: u8, value: u8) {
     let refused = number < 2 && value >= 240;
-    let refusal = if refused { REFUSED_FINE_DELAY } else { ACCEPTED };
+    let refusal = if refused { REFUSED_NO_SETTING } else { ACCEPTED };
     let mut expected = stored(both, state);
     if !refused {
         expected[usize::from(number)] = value;
@@ -53,7 +53,7 @@ fn refused_again_and_again() {
     let mut state = start;
     for _ in 0..20 {
         let answer = both.write(state, 0, 0xF3);
-        both.same(state, answer, refused_write(REFUSED_FINE_DELAY, start));
+        both.same(state, answer, refused_write(REFUSED_NO_SETTING, start));
         state = answer.receiver;
     }
     both.at_least(2 * 20);
@@ -67,12 +67,12 @@ const WRITES: [(u8, u8, u8); 22] = [
     (3, 255, ACCEPTED),
     (8, 250, ACCEPTED),
     (11, 255, ACCEPTED),
-    (0, 240, REFUSED_FINE_DELAY),
-    (0, 250, REFUSED_FINE_DELAY),
-    (0, 255, REFUSED_FINE_DELAY),
-    (1, 240, REFUSED_FINE_DELAY),
-    (1, 250, REFUSED_FINE_DELAY),
-    (1, 255, REFUSED_FINE_DELAY),
+    (0, 240, REFUSED_NO_SETTING),
+    (0, 250, REFUSED_NO_SETTING),
+    (0, 255, REFUSED_NO_SETTING),
+    (1, 240, REFUSED_NO_SETTING),
+    (1, 250, REFUSED_NO_SETTING),
+    (1, 255, REFUSED_NO_SETTING),
     // 5 and 6 whatever the byte; 7 for bytes of no setting and for others.
     (4, 250, REFUSED_REGISTER),
     (19, 240, REFUSED_REGISTER),

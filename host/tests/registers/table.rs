@@ -2,7 +2,7 @@
 
 use ttcrx_host::sys::{Core, Counters, Errors, Held, Ids, Sequence, Settings};
 use ttcrx_host::sys::{ReadAnswer, Receiver, WriteAnswer};
-use ttcrx_host::sys::{REFUSED_CONFIG, REFUSED_FINE_DELAY};
+use ttcrx_host::sys::{REFUSED_CONFIG, REFUSED_NO_SETTING};
 use ttcrx_host::sys::{REFUSED_READ_ONLY, REFUSED_REGISTER, REFUSED_STATE};
 use ttcrx_host::testing::compare::Both;
 use ttcrx_host::testing::convert::{refused_clock, refused_write, Answer};
@@ -103,7 +103,7 @@ fn written(state: Receiver, number: u8, value: u8) -> WriteAnswer {
         (20, 0x85 | 0x05) => settings.config2 = value,
         (21, 0xA7 | 0x27) => settings.config3 = value,
         (20 | 21, _) => refusal = REFUSED_CONFIG,
-        (0 | 1, 240..) => refusal = REFUSED_FINE_DELAY,
+        (0 | 1, 240..) => refusal = REFUSED_NO_SETTING,
         (16 | 17 | 18 | 22, _) => refusal = REFUSED_READ_ONLY,
         _ => match ACCEPTED.iter().find(|row| row.0.contains(&number)) {
             Some((_, change)) => change(&mut receiver.core, value),

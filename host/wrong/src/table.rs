@@ -143,7 +143,7 @@ table! {
     // No delay byte without a setting: Q-4 of document 02.
     Clock no_setting::no_setting_stores, "clock no_setting" "lists keeps_settings":
         "a byte of no setting is stored, with verdict 10";
-    Clock no_setting::delay_byte_239_dropped, "clock no_setting":
+    Clock no_setting::delay_byte_239_not_stored, "clock no_setting":
         "fine delay byte 239 gets verdict 10";
     Clock no_setting::delay_byte_240_stored, "clock no_setting" "lists keeps_settings":
         "fine delay byte 240 is stored";

@@ -5,7 +5,7 @@ mod quiet;
 mod tally;
 
 use super::verdict;
-use crate::sys::{ClockAnswer, Receiver, REFUSED_FINE_DELAY};
+use crate::sys::{ClockAnswer, Receiver, REFUSED_NO_SETTING};
 use crate::tallies;
 pub use accesses::{kind, Accesses, KINDS};
 pub use quiet::Quiet;
@@ -45,7 +45,7 @@ pub struct Coverage {
 impl Coverage {
     pub fn refusal(&mut self, refusal: u8) {
         let place = match refusal {
-            REFUSED_FINE_DELAY => 8,
+            REFUSED_NO_SETTING => 8,
             _ => refusal,
         };
         self.tallies.refusals.seen([place]);

@@ -31,7 +31,7 @@ fn stored(mut answer: ClockAnswer) -> ClockAnswer {
 }
 
 /// The clock's frame gets verdict 10, and its register stays as it was before.
-fn dropped(mut before: Receiver, mut answer: ClockAnswer) -> ClockAnswer {
+fn not_stored(mut before: Receiver, mut answer: ClockAnswer) -> ClockAnswer {
     let (number, _) = said(&answer);
     answer.outputs.verdict = VERDICT_NO_SETTING;
     *register(&mut answer.receiver, number) = *register(&mut before, number);
@@ -50,10 +50,10 @@ pub fn no_setting_stores(receiver: Receiver, trigger: u8, data: u8) -> ClockAnsw
     }
 }
 
-pub fn delay_byte_239_dropped(receiver: Receiver, trigger: u8, data: u8) -> ClockAnswer {
+pub fn delay_byte_239_not_stored(receiver: Receiver, trigger: u8, data: u8) -> ClockAnswer {
     let right = Model.clock(receiver, trigger, data);
     match (right.outputs.verdict, said(&right)) {
-        (VERDICT_STORED, (0 | 1, 239)) => dropped(receiver, right),
+        (VERDICT_STORED, (0 | 1, 239)) => not_stored(receiver, right),
         _ => right,
     }
 }
@@ -71,7 +71,7 @@ pub fn received_data_decide(receiver: Receiver, trigger: u8, data: u8) -> ClockA
     let right = Model.clock(receiver, trigger, data);
     let over = receiver.held.bits >> 7 & 0xFF > 239;
     match (right.outputs.verdict, said(&right)) {
-        (VERDICT_STORED, (0 | 1, _)) if over => dropped(receiver, right),
+        (VERDICT_STORED, (0 | 1, _)) if over => not_stored(receiver, right),
         (VERDICT_NO_SETTING, _) if !over => stored(right),
         _ => right,
     }
@@ -80,7 +80,7 @@ pub fn received_data_decide(receiver: Receiver, trigger: u8, data: u8) -> ClockA
 pub fn no_setting_before_outside(receiver: Receiver, trigger: u8, data: u8) -> ClockAnswer {
     let right = Model.clock(receiver, trigger, data);
     match (right.outputs.verdict, said(&right)) {
-        (VERDICT_OUTSIDE, (0 | 1, 240..)) => dropped(receiver, right),
+        (VERDICT_OUTSIDE, (0 | 1, 240..)) => not_stored(receiver, right),
         _ => right,
     }
 }
@@ -88,7 +88,7 @@ pub fn no_setting_before_outside(receiver: Receiver, trigger: u8, data: u8) -> C
 pub fn no_setting_before_address(receiver: Receiver, trigger: u8, data: u8) -> ClockAnswer {
     let right = Model.clock(receiver, trigger, data);
     match (right.outputs.verdict, said(&right)) {
-        (VERDICT_OTHER_ADDRESS, (0 | 1, 240..)) => dropped(receiver, right),
+        (VERDICT_OTHER_ADDRESS, (0 | 1, 240..)) => not_stored(receiver, right),
         _ => right,
     }
 }
@@ -96,7 +96,7 @@ pub fn no_setting_before_address(receiver: Receiver, trigger: u8, data: u8) -> C
 pub fn no_setting_in_register_2(receiver: Receiver, trigger: u8, data: u8) -> ClockAnswer {
     let right = Model.clock(receiver, trigger, data);
     match (right.outputs.verdict, said(&right)) {
-        (VERDICT_STORED, (2, 240..)) => dropped(receiver, right),
+        (VERDICT_STORED, (2, 240..)) => not_stored(receiver, right),
         _ => right,
     }
 }
@@ -173,7 +173,7 @@ pub fn any_fine_delay_read(receiver: Receiver, number: u8) -> ReadAnswer {
 
 pub fn any_fine_delay_written(receiver: Receiver, number: u8, value: u8) -> WriteAnswer {
     let mut answer = Model.write(receiver, number, value);
-    if answer.refusal == REFUSED_FINE_DELAY {
+    if answer.refusal == REFUSED_NO_SETTING {
         answer.refusal = ACCEPTED;
         *register(&mut answer.receiver, number) = value;
     }
@@ -182,7 +182,7 @@ pub fn any_fine_delay_written(receiver: Receiver, number: u8, value: u8) -> Writ
 
 pub fn refused_fine_delay_stored(receiver: Receiver, number: u8, value: u8) -> WriteAnswer {
     let mut answer = Model.write(receiver, number, value);
-    if answer.refusal == REFUSED_FINE_DELAY {
+    if answer.refusal == REFUSED_NO_SETTING {
         *register(&mut answer.receiver, number) = value;
     }
     answer
@@ -191,14 +191,14 @@ pub fn refused_fine_delay_stored(receiver: Receiver, number: u8, value: u8) -> W
 pub fn coarse_delay_refused(receiver: Receiver, number: u8, value: u8) -> WriteAnswer {
     let right = Model.write(receiver, number, value);
     match right.refusal == ACCEPTED && number == 2 && value > 239 {
-        true => convert::refused_write(REFUSED_FINE_DELAY, receiver),
+        true => convert::refused_write(REFUSED_NO_SETTING, receiver),
         false => right,
     }
 }
 
 pub fn fine_delay_before_state(receiver: Receiver, number: u8, value: u8) -> WriteAnswer {
     match number < 2 && value > 239 {
-        true => convert::refused_write(REFUSED_FINE_DELAY, receiver),
+        true => convert::refused_write(REFUSED_NO_SETTING, receiver),
         false => Model.write(receiver, number, value),
     }
 }
