@@ -1,38 +1,22 @@
 //! Records by hand, of the examples of document 01.
 
-use crate::driver::{numbers, Driver};
+use crate::driver::Driver;
 use ttcrx_host::model::Kind;
-use ttcrx_host::sys::{CODE_CORRECTED, CODE_MISSED, CODE_TRIGGER, RECORD_NUMBERS};
+use ttcrx_host::sys::{CODE_CORRECTED, CODE_MISSED, CODE_TRIGGER};
 use ttcrx_host::testing::example::{CORRECTED, LONG_FRAMES, RESET, UNCORRECTABLE};
 use ttcrx_host::testing::frame::{Frame, RUN};
-use ttcrx_host::ttcrx;
 
 const MISSED: u32 = CODE_TRIGGER + CODE_MISSED;
-
-/// A driver of a fresh receiver.
-fn fresh(name: &'static str, seed: u64) -> Driver {
-    let mut driver = Driver::of(name, seed);
-    driver.state = ttcrx::fresh(5, 5).receiver;
-    driver
-}
-
-/// A block of the driver's receiver writes exactly these records.
-#[track_caller]
-fn says(driver: &mut Driver, block: &[u8], expected: &[[u32; RECORD_NUMBERS]]) {
-    let records = driver.expect(0, block, RECORD_NUMBERS * block.len() + 2);
-    let records: Vec<_> = records.iter().map(numbers).collect();
-    driver.both.same(block, &records[..], expected);
-}
 
 /// "triggers on clocks 1, 2 and 4 from fresh": the second is missed.
 #[test]
 fn triggers() {
-    let mut driver = fresh("triggers on clocks 1, 2 and 4", 470);
+    let mut driver = Driver::fresh("triggers on clocks 1, 2 and 4", 470);
     let first = [[0, 0, 0, CODE_TRIGGER, 0], [1, 1, 1, MISSED, 0], [3, 3, 2, CODE_TRIGGER, 0]];
-    says(&mut driver, &[3, 3, 2, 3, 2], &first);
+    driver.says(&[3, 3, 2, 3, 2], &first);
     // Two words are left after the trigger on clock 4, one after clock 5: clock 6 is missed.
     let second = [[0, 5, 3, MISSED, 0], [2, 7, 4, CODE_TRIGGER, 0]];
-    says(&mut driver, &[3, 2, 3], &second);
+    driver.says(&[3, 2, 3], &second);
     driver.both.at_least(2 * 8);
 }
 
@@ -40,7 +24,7 @@ fn triggers() {
 /// After the bad stop bit come 41 ones, which have no records.
 #[test]
 fn frames() {
-    let mut driver = fresh("frames with their counts", 471);
+    let mut driver = Driver::fresh("frames with their counts", 471);
     driver.state.core.counters.event = 7;
     let short = |number| Frame::of(Kind::Short, number);
     let outside = Frame::of(Kind::Long, LONG_FRAMES[2].1);
@@ -60,28 +44,28 @@ fn frames() {
         (RESET, 1, [41, 83, 1, 3 + CODE_TRIGGER, 0x0015_0600]),
     ];
     for (frame, last_trigger, record) in frames {
-        says(&mut driver, &frame.block(last_trigger), &[record]);
+        driver.says(&frame.block(last_trigger), &[record]);
     }
-    says(&mut driver, &Frame::ones(RUN).block(0), &[]);
+    driver.says(&Frame::ones(RUN).block(0), &[]);
     for (frame, last_trigger, record) in after_ones {
-        says(&mut driver, &frame.block(last_trigger), &[record]);
+        driver.says(&frame.block(last_trigger), &[record]);
     }
-    says(&mut driver, &[3], &[[0, 0, 0, CODE_TRIGGER, 0]]);
+    driver.says(&[3], &[[0, 0, 0, CODE_TRIGGER, 0]]);
     driver.both.at_least(9 * 8);
 }
 
 /// A frame cut by a block's end: its record is in the second block, placed there.
 #[test]
 fn a_frame_in_two_blocks() {
-    let mut driver = fresh("a frame in two blocks", 472);
+    let mut driver = Driver::fresh("a frame in two blocks", 472);
     let fresh = driver.state;
     let block = Frame::of(Kind::Long, 0x180_1502_35AD).block(0);
     for cut in 0..42 {
         driver.state = fresh;
         let (front, back) = block.split_at(cut);
-        says(&mut driver, front, &[]);
+        driver.says(front, &[]);
         let record = [41 - cut as u32, 41, 0, 2 + CODE_CORRECTED, 0x0015_0235];
-        says(&mut driver, back, &[record]);
+        driver.says(back, &[record]);
     }
     driver.both.at_least(42 * 16);
 }
@@ -89,7 +73,7 @@ fn a_frame_in_two_blocks() {
 /// The numbers before the top of both counters, and the tops.
 #[test]
 fn tops() {
-    let mut driver = fresh("triggers at the tops of the counters", 473);
+    let mut driver = Driver::fresh("triggers at the tops of the counters", 473);
     driver.state.core.settings.control = 0x90;
     driver.state.core.counters.bunch = 4094;
     driver.state.core.counters.event = 0x00FF_FFFE;
@@ -98,6 +82,6 @@ fn tops() {
         [1, 4095, 0x00FF_FFFF, CODE_TRIGGER, 0],
         [2, 0, 0, CODE_TRIGGER, 0],
     ];
-    says(&mut driver, &[3, 3, 3], &expected);
+    driver.says(&[3, 3, 3], &expected);
     driver.both.at_least(8);
 }

@@ -25,6 +25,11 @@ impl Driver {
         Driver { both: Both::of(name), random: Random::new(seed), state: Receiver::default() }
     }
 
+    /// With a fresh receiver of ID 5.
+    pub fn fresh(name: &'static str, seed: u64) -> Driver {
+        Driver { state: ttcrx::fresh(5, 5).receiver, ..Driver::of(name, seed) }
+    }
+
     /// One block on the state, with a buffer of so many random numbers. The numbers before the
     /// buffer and after its last record stay. Gives the answer and the records.
     #[track_caller]
@@ -65,6 +70,14 @@ impl Driver {
         let (answer, records) = self.block(block, room);
         self.both.same(input, answer.refusal, refusal);
         records
+    }
+
+    /// A block that writes exactly these records.
+    #[track_caller]
+    pub fn says(&mut self, block: &[u8], expected: &[[u32; RECORD_NUMBERS]]) {
+        let records = self.expect(0, block, RECORD_NUMBERS * block.len() + 2);
+        let records: Vec<_> = records.iter().map(numbers).collect();
+        self.both.same(block, &records[..], expected);
     }
 }
 

@@ -1,7 +1,7 @@
 //! Q-4 of document 02, "No delay byte without a setting", in blocks: records with verdict 10, and
 //! receivers whose fine delays have no setting.
 
-use crate::driver::{numbers, Driver};
+use crate::driver::Driver;
 use ttcrx_host::model::Kind;
 use ttcrx_host::sys::*;
 use ttcrx_host::testing::frame::Frame;
@@ -18,21 +18,6 @@ const ALL: Frame = Frame::of(Kind::Long, 0x100_0101_FF5B);
 /// Fine delay EF, the last byte of a setting, for register 0 of ID 5.
 const LAST: Frame = Frame::of(Kind::Long, 0x100_1500_EFA7);
 
-/// A driver of a fresh receiver.
-fn fresh(name: &'static str, seed: u64) -> Driver {
-    let mut driver = Driver::of(name, seed);
-    driver.state = ttcrx::fresh(5, 5).receiver;
-    driver
-}
-
-/// A block of the driver's receiver writes exactly these records.
-#[track_caller]
-fn says(driver: &mut Driver, block: &[u8], expected: &[[u32; RECORD_NUMBERS]]) {
-    let records = driver.expect(0, block, RECORD_NUMBERS * block.len() + 2);
-    let records: Vec<_> = records.iter().map(numbers).collect();
-    driver.both.same(block, &records[..], expected);
-}
-
 /// The fine delays, and the error counters.
 fn kept(driver: &Driver) -> (u8, u8, u16, u8) {
     let Core { settings, errors, .. } = driver.state.core;
@@ -42,7 +27,7 @@ fn kept(driver: &Driver) -> (u8, u8, u16, u8) {
 /// Clean, with a wrong bit of check or data, with triggers; and EF, which is received as FF.
 #[test]
 fn records_by_hand() {
-    let mut driver = fresh("records with verdict 10, by hand", 490);
+    let mut driver = Driver::fresh("records with verdict 10, by hand", 490);
     let corrected = NO_SETTING + CODE_CORRECTED;
     let frames = [
         (FIRST, 0, [41, 41, 0, NO_SETTING, 0x0015_00F3]),
@@ -55,7 +40,7 @@ fn records_by_hand() {
         (FIRST.flipped(1 << 39), 0, [41, 335, 2, corrected, 0x0015_00F3]),
     ];
     for (frame, last_trigger, record) in frames {
-        says(&mut driver, &frame.block(last_trigger), &[record]);
+        driver.says(&frame.block(last_trigger), &[record]);
     }
     driver.both.same("kept", kept(&driver), (0xEF, 0, 4, 1));
     driver.both.at_least(8 * 8 + 1);
@@ -64,12 +49,12 @@ fn records_by_hand() {
 /// A trigger on the last clock but one of a frame, and on the last, which is missed.
 #[test]
 fn missed_triggers() {
-    let mut driver = fresh("verdict 10 with a missed trigger", 491);
+    let mut driver = Driver::fresh("verdict 10 with a missed trigger", 491);
     let mut block = FIRST.flipped(2).block(1);
     block[40] |= 1;
     let last = NO_SETTING + CODE_CORRECTED + CODE_TRIGGER + CODE_MISSED;
     let records = [[40, 40, 0, CODE_TRIGGER, 0], [41, 41, 1, last, 0x0015_00F3]];
-    says(&mut driver, &block, &records);
+    driver.says(&block, &records);
     driver.both.same("kept", kept(&driver), (0, 0, 1, 0));
     driver.both.at_least(9);
 }
@@ -77,7 +62,7 @@ fn missed_triggers() {
 /// Every such frame, one after the other in one block: a record for each, and nothing stored.
 #[test]
 fn frames_in_a_row() {
-    let mut driver = fresh("frames without a setting in a row", 492);
+    let mut driver = Driver::fresh("frames without a setting in a row", 492);
     let (mut block, mut expected) = (Vec::new(), Vec::new());
     for (register, data) in (240..=255).flat_map(|data| [(0, data), (1, data)]) {
         let word = 0x0015_0000 | register << 8 | data;
@@ -85,7 +70,7 @@ fn frames_in_a_row() {
         let place = block.len() as u32 - 1;
         expected.push([place, place, 0, NO_SETTING, word]);
     }
-    says(&mut driver, &block, &expected);
+    driver.says(&block, &expected);
     driver.both.same("kept", kept(&driver), (0, 0, 0, 0));
     driver.both.at_least(9);
 }
@@ -93,15 +78,15 @@ fn frames_in_a_row() {
 /// A frame cut by a block's end: its record is in the second block, placed there.
 #[test]
 fn every_cut() {
-    let mut driver = fresh("a frame without a setting in two blocks", 493);
+    let mut driver = Driver::fresh("a frame without a setting in two blocks", 493);
     let fresh = driver.state;
     let block = SECOND.flipped(1 << 15).block(0);
     for cut in 0..42 {
         driver.state = fresh;
         let (front, back) = block.split_at(cut);
-        says(&mut driver, front, &[]);
+        driver.says(front, &[]);
         let record = [41 - cut as u32, 41, 0, NO_SETTING + CODE_CORRECTED, 0x0015_01F3];
-        says(&mut driver, back, &[record]);
+        driver.says(back, &[record]);
         driver.both.same(cut, kept(&driver), (0, 0, 1, 0));
     }
     driver.both.at_least(42 * 17);
@@ -119,7 +104,7 @@ const BLOCKS: [(u8, &[u8], usize); 5] = [
 /// A byte of no setting in either register or in both: 2, before 15, 16 and 1. 239 is accepted.
 #[test]
 fn ill_formed_receivers() {
-    let mut driver = fresh("blocks on receivers with fine delays of no setting", 494);
+    let mut driver = Driver::fresh("blocks on receivers with fine delays of no setting", 494);
     let mut state = driver.state;
     for byte in 239..=255 {
         for (first, second) in [(byte, 14), (14, byte), (byte, byte)] {
@@ -138,7 +123,7 @@ fn ill_formed_receivers() {
 /// After every block of any traffic from fresh both registers hold the byte of a setting.
 #[test]
 fn long_runs() {
-    let mut driver = fresh("fine delays after blocks", 495);
+    let mut driver = Driver::fresh("fine delays after blocks", 495);
     let mut traffic = Traffic::new(496);
     let mut found = 0;
     traffic.start(5, LIVELY);

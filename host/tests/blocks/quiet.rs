@@ -1,7 +1,7 @@
 //! Q-1 of document 02, "Quiet after a bad stop", in blocks: receivers that want ones, and bad stop
 //! bits with what follows them.
 
-use crate::driver::{numbers, Driver};
+use crate::driver::Driver;
 use ttcrx_host::model::block::byte;
 use ttcrx_host::model::Kind;
 use ttcrx_host::sys::*;
@@ -29,9 +29,7 @@ fn block(parts: &[Frame]) -> Vec<u8> {
 /// A block of the driver's receiver writes exactly these records, and leaves this of channel B.
 #[track_caller]
 fn says(driver: &mut Driver, block: &[u8], expected: &[[u32; RECORD_NUMBERS]], held: Held) {
-    let records = driver.expect(0, block, RECORD_NUMBERS * block.len());
-    let records: Vec<_> = records.iter().map(numbers).collect();
-    driver.both.same(block, &records[..], expected);
+    driver.says(block, expected);
     driver.both.same(block, driver.state.held, held);
 }
 
