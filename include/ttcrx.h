@@ -21,6 +21,12 @@
  * start bit 0, format bit 0, a word of 8, 5 check bits, stop bit 1. A long frame (individually
  * addressed) has 42: start bit 0, format bit 1, a word of 32, 7 check bits, stop bit 1. Word and check
  * bits are protected: bits 1 to 13 of a short number, 1 to 39 of a long one. Bit 0 is the stop bit.
+ *
+ * The place of a protected bit counts the frame's bits after the format bit, in the order sent, from 1:
+ * the word's most significant bit has place 1, its least 8 or 32, and the check bits follow, 9 to 13 or
+ * 33 to 39. The bit at a place is bit TTCRX_PLACES_SHORT + 1 - place of a short number, and bit
+ * TTCRX_PLACES_LONG + 1 - place of a long one; flipped there, a corrected frame is the frame as it was
+ * sent.
  */
 #ifndef TTCRX_H
 #define TTCRX_H
@@ -37,7 +43,7 @@ extern "C" {
  * value, so a program must be compiled with the header of the archive that it is linked with:
  * compare TTCRX_VERSION with ttcrx_version() once, at the start.
  */
-#define TTCRX_VERSION 3
+#define TTCRX_VERSION 4
 
 /* The version of the archive. Refuses nothing. */
 uint32_t ttcrx_version(void);
@@ -66,10 +72,15 @@ uint32_t ttcrx_version(void);
 #define TTCRX_REFUSED_NO_SETTING 17    /* a write to 0 or 1: the byte belongs to no fine delay setting */
 
 /*
- * Verdicts on a finished frame, the field verdict of a clock's outputs. 1 to 4 were executed; 7 to 9
- * were dropped, and each raised the double error counter, up to 255. A frame with verdict 1, 2, 4, 5,
- * 6 or 10 that was corrected raised the single error counter, up to 65535. RESET clears both, and so
- * does a write to their registers.
+ * Verdicts on a finished frame, the field verdict of a clock's outputs. 1 to 4 were executed; 7, 8, 9
+ * and 11 were dropped, and each raised the double error counter, up to 255. A frame with verdict 1, 2,
+ * 4, 5, 6 or 10 that was corrected raised the single error counter, up to 65535. RESET clears both, and
+ * so does a write to their registers.
+ *
+ * 8 and 11 are the frames that cannot be corrected. The syndrome is the received check number xor that
+ * of the received word. With 8 the number of ones in it is even and not 0: an even number of protected
+ * bits was wrong, two or more. With 11 it is odd, and the syndrome belongs to no bit: an odd number was
+ * wrong, three or more. Two wrong bits always give 8. Four may give 8 too, or look like a good frame.
  *
  * After a finished frame with any other verdict than 7 the receiver waits for a start bit, and the next
  * bit may be one. After verdict 7 it wants 41 ones in a row on channel B first: a 0 among them is no
@@ -84,16 +95,21 @@ uint32_t ttcrx_version(void);
 #define TTCRX_VERDICT_OTHER_ADDRESS 5     /* addressed to another receiver: no effect */
 #define TTCRX_VERDICT_OTHER_SUB_ADDRESS 6 /* a sub-address without a meaning: no effect */
 #define TTCRX_VERDICT_STOP_BIT 7          /* the stop bit was 0: dropped; 41 ones are wanted then */
-#define TTCRX_VERDICT_UNCORRECTABLE 8     /* more bits were wrong than can be corrected: dropped */
+#define TTCRX_VERDICT_EVEN_SYNDROME 8     /* an even number of bits was wrong: dropped */
 #define TTCRX_VERDICT_FIXED_BIT 9         /* long, fixed bit 0 after correction: dropped */
 #define TTCRX_VERDICT_NO_SETTING 10       /* for register 0 or 1, but data 240 to 255: nothing stored */
+#define TTCRX_VERDICT_ODD_SYNDROME 11     /* an odd number of bits, three or more: dropped */
 
-/* The field verdict of a decoder is this, or one of the verdicts 7, 8 and 9. */
+/* The field verdict of a decoder is this, or one of the verdicts 7, 8, 9 and 11. */
 #define TTCRX_DECODED_GOOD 0
 
 /* Kinds of frames. */
 #define TTCRX_SHORT 0
 #define TTCRX_LONG 1
+
+/* How many protected bits a frame has: the places are 1 to that. */
+#define TTCRX_PLACES_SHORT 13
+#define TTCRX_PLACES_LONG 39
 
 /* The address of every receiver, and the sub-address of RESET. */
 #define TTCRX_ADDRESS_ALL 0
@@ -122,14 +138,15 @@ typedef struct ttcrx_fields {
     uint8_t data;
 } ttcrx_fields;
 
-/* The answer of a decoder. A verdict of 7, 8 or 9 is no refusal. */
+/* The answer of a decoder. A verdict of 7, 8, 9 or 11 is no refusal. */
 typedef struct ttcrx_decoded {
     uint8_t refusal;
-    uint8_t verdict;     /* TTCRX_DECODED_GOOD (0), or TTCRX_VERDICT_STOP_BIT (7), _UNCORRECTABLE (8)
-                            or _FIXED_BIT (9) */
-    uint8_t corrected;   /* 1: one wrong bit was corrected; always 0 with verdicts 7, 8 and 9 */
-    uint32_t word;       /* the corrected word; 0 with verdicts 7 and 8 */
-    ttcrx_fields fields; /* of a good frame; 0 with verdicts 7, 8 and 9 */
+    uint8_t verdict;     /* TTCRX_DECODED_GOOD (0), or TTCRX_VERDICT_STOP_BIT (7), _EVEN_SYNDROME (8),
+                            _FIXED_BIT (9) or _ODD_SYNDROME (11) */
+    uint8_t corrected;   /* 1: one wrong bit was corrected; always 0 with verdicts 7, 8, 9 and 11 */
+    uint8_t place;       /* the place of the corrected bit, 1 to 13 or 39; 0 if corrected is 0 */
+    uint32_t word;       /* the corrected word; 0 with verdicts 7, 8 and 11 */
+    ttcrx_fields fields; /* of a good frame; 0 with verdicts 7, 8, 9 and 11 */
 } ttcrx_decoded;
 
 /* The answer of the reader of a line. */
@@ -237,11 +254,12 @@ typedef struct ttcrx_outputs {
     uint8_t trigger;   /* the trigger output */
     uint8_t missed;    /* 1: a trigger came while a sequence had words left. It is counted like any
                           other, but its own numbers are not shown */
-    uint8_t strobe;    /* what the bus shows: one of TTCRX_STROBE_ */
     uint16_t number;   /* the number on the bus; 0 with TTCRX_STROBE_NONE */
+    uint8_t strobe;    /* what the bus shows: one of TTCRX_STROBE_ */
     uint8_t verdict;   /* of the frame that this clock finished: one of TTCRX_VERDICT_ */
-    uint8_t corrected; /* 1: one wrong bit of it was corrected; 0 with verdicts 0, 7, 8 and 9 */
-    uint32_t word;     /* its corrected word; 0 with verdicts 0, 7 and 8 */
+    uint8_t corrected; /* 1: one wrong bit of it was corrected; 0 with verdicts 0, 7, 8, 9 and 11 */
+    uint8_t place;     /* the place of the corrected bit, 1 to 13 or 39; 0 if corrected is 0 */
+    uint32_t word;     /* its corrected word; 0 with verdicts 0, 7, 8 and 11 */
 } ttcrx_outputs;
 
 /* The answer of a clock. */
@@ -325,8 +343,8 @@ typedef struct ttcrx_reported {
 } ttcrx_reported;
 
 /* Room for the text of any line, and room that is always enough for the end. */
-#define TTCRX_LONGEST_LINE 35
-#define TTCRX_LONGEST_END 66
+#define TTCRX_LONGEST_LINE 38
+#define TTCRX_LONGEST_END 69
 
 /* The short frame of a byte. Refuses nothing. */
 ttcrx_encoded ttcrx_encode_short(uint8_t data);
@@ -460,12 +478,13 @@ ttcrx_report ttcrx_report_start(void);
 
 /*
  * Reports the lines that end in a piece of the input, each as ttclines prints it: the line's number,
- * then verdict, corrected flag and word as the clock of its last bit shows them, or '!' and the
- * refusal: 10, 11 or 12 of the line, or 2 for a frame on a receiver that is not well formed. One
- * space stands between them. The word is in capital hexadecimal digits, or '-' with verdicts 7 and 8;
- * all else is decimal. It has 2 digits in a line of 4 characters and 8 in one of 11, also if the
- * receiver given held bits of another frame, so that the line's last bit finishes that one, or none
- * (verdict 0); of a longer word these are the last digits. A receiver that wants ones finishes none.
+ * then verdict, corrected flag and word as the clock of its last bit shows them, and with verdicts 1 to
+ * 6, 9 and 10 the place, 0 if no bit was corrected; or '!' and the refusal: 10, 11 or 12 of the line,
+ * or 2 for a frame on a receiver that is not well formed. One space stands between them. The word is in
+ * capital hexadecimal digits, or '-' with verdicts 7, 8 and 11; all else is decimal. It has 2 digits in
+ * a line of 4 characters and 8 in one of 11, also if the receiver given held bits of another frame, so
+ * that the line's last bit finishes that one, or none (verdict 0, without a place); of a longer word
+ * these are the last digits. A receiver that wants ones finishes none.
  *
  * Each line whose printed verdict is 7 is followed by 41 clocks with a 1 on channel B and no trigger,
  * after which the receiver waits. They print nothing, and the bunch counter counts them. So a receiver

@@ -1,4 +1,4 @@
--- Document 01, "Examples to be proved, one statement over the list". Proved in proofs/Examples.antt.
+-- Document 01, "Examples to be proved, one statement over the list", with document 02, Q-8. Proved in proofs/Examples.antt.
 use Prim.Native.Nat.{ℕ}
 use mathlib.Core.Path.{_≡_}
 use mathlib.Core.List.{List, [], _∷_, map}
@@ -18,12 +18,12 @@ pub data Example : Type 0 where
   broadcast : (byte frame : ℕ) → Example
   -- address, E, sub-address, data; the frame
   long : (address e sub byte frame : ℕ) → Example
-  -- a short frame; the byte, after a correction
-  corrected : (frame byte : ℕ) → Example
-  -- a short frame that can't be corrected
-  uncorrectable : (frame : ℕ) → Example
-  -- a long frame that can't be corrected; its syndrome
-  uncorrectable-long : (frame syndrome-is : ℕ) → Example
+  -- a short frame; the byte, after a correction, and the place of the corrected bit
+  corrected : (frame byte place : ℕ) → Example
+  -- a short frame that can't be corrected; its verdict
+  uncorrectable : (frame verdict : ℕ) → Example
+  -- a long frame that can't be corrected; its syndrome and its verdict
+  uncorrectable-long : (frame syndrome-is verdict : ℕ) → Example
   -- a fine delay setting; its byte
   setting : (k byte : ℕ) → Example
 
@@ -31,27 +31,27 @@ pub data Example : Type 0 where
 abbrev sent : Encoded → List ℕ
 sent answer = answer .refusal ∷ answer .number ∷ []
 
--- refusal, verdict, corrected flag, word, address, E, sub-address and data
+-- refusal, verdict, corrected flag, place, word, address, E, sub-address and data
 abbrev numbersIn : Answer → List ℕ
 numbersIn answer =
-    answer .refusal ∷ answer .verdict ∷ answer .corrected ∷ answer .word
+    answer .refusal ∷ answer .verdict ∷ answer .corrected ∷ answer .place ∷ answer .word
     ∷ answer .fields .address ∷ answer .fields .e ∷ answer .fields .sub ∷ answer .fields .«data» ∷ []
 
 abbrev pub answered : Example → List ℕ
 answered (broadcast byte frame) = sent (encodeShort shortColumns byte)
 answered (long address e sub byte frame) = sent (encodeLong longColumns address e sub byte)
-answered (corrected frame byte) = numbersIn (decodeFrame shortColumns Short frame)
-answered (uncorrectable frame) = numbersIn (decodeFrame shortColumns Short frame)
-answered (uncorrectable-long frame s) = syndrome longColumns (wordBits Long frame) (checkBitsOf Long frame) ∷ numbersIn (decodeFrame longColumns Long frame)
+answered (corrected frame byte place) = numbersIn (decodeFrame shortColumns Short frame)
+answered (uncorrectable frame verdict) = numbersIn (decodeFrame shortColumns Short frame)
+answered (uncorrectable-long frame s verdict) = syndrome longColumns (wordBits Long frame) (checkBitsOf Long frame) ∷ numbersIn (decodeFrame longColumns Long frame)
 answered (setting k byte) = settingToByte k .refusal ∷ settingToByte k .byte ∷ []
 
 -- what the paper expects, in the same order; no example is refused
 abbrev pub expected : Example → List ℕ
 expected (broadcast byte frame) = 0 ∷ frame ∷ []
 expected (long address e sub byte frame) = 0 ∷ frame ∷ []
-expected (corrected frame byte) = 0 ∷ 0 ∷ 1 ∷ byte ∷ 0 ∷ 0 ∷ 0 ∷ byte ∷ []
-expected (uncorrectable frame) = 0 ∷ 8 ∷ 0 ∷ 0 ∷ 0 ∷ 0 ∷ 0 ∷ 0 ∷ []
-expected (uncorrectable-long frame s) = s ∷ 0 ∷ 8 ∷ 0 ∷ 0 ∷ 0 ∷ 0 ∷ 0 ∷ 0 ∷ []
+expected (corrected frame byte place) = 0 ∷ 0 ∷ 1 ∷ place ∷ byte ∷ 0 ∷ 0 ∷ 0 ∷ byte ∷ []
+expected (uncorrectable frame verdict) = 0 ∷ verdict ∷ 0 ∷ 0 ∷ 0 ∷ 0 ∷ 0 ∷ 0 ∷ 0 ∷ []
+expected (uncorrectable-long frame s verdict) = s ∷ 0 ∷ verdict ∷ 0 ∷ 0 ∷ 0 ∷ 0 ∷ 0 ∷ 0 ∷ 0 ∷ []
 expected (setting k byte) = 0 ∷ byte ∷ []
 
 abbrev pub examples : List Example
@@ -67,10 +67,11 @@ examples =
     ∷ long 0 0 2 0x35 0x10001023543
     ∷ long 5 0 6 0 0x100150600F3
     ∷ long 5 1 0x10 0xAA 0x1001710AAB7
-    -- "0095 gives 02 corrected; 0039 can't be corrected; 1FFFFFFFFFF, one stray 0 in idle, has syndrome 124 and can't be corrected"
-    ∷ corrected 0x0095 0x02
-    ∷ uncorrectable 0x0039
-    ∷ uncorrectable-long 0x1FFFFFFFFFF 124
+    -- "0095 gives 02 corrected; 0039 can't be corrected; 1FFFFFFFFFF, one stray 0 in idle, has syndrome 124 and can't be corrected".
+    -- Document 02, Q-8: "0039 and 1FFFFFFFFFF now get 11". The wrong bit of 0095 is the last check bit, at place 13.
+    ∷ corrected 0x0095 0x02 13
+    ∷ uncorrectable 0x0039 11
+    ∷ uncorrectable-long 0x1FFFFFFFFFF 124 11
     -- "0, 1, 15, 30, 239 give bytes 14, 29, 15, 0, 239"
     ∷ setting 0 14
     ∷ setting 1 29

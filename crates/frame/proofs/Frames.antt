@@ -1,33 +1,37 @@
 -- What decoding answers to a frame that was encoded, and conversely, from the facts of the code. Assumes nothing.
 use mathlib.Core.Path.{_≡_, refl, sym, ap, ap₂, _∙_, subst, subst⁻¹}
 use mathlib.Core.Bool.{Bool, true, false, cond}
-use mathlib.Core.Logic.{inl, inr}
-use mathlib.Core.List.{List}
-use Prim.Native.Nat.{ℕ, _^_, _≤_, _<_}
+use mathlib.Core.Logic.{_≢_, inl, inr}
+use mathlib.Core.List.{List, [], _∷_}
+use Prim.Native.Nat.{ℕ, _%_, _^_, _≤_, _<_}
 use native.Mathlib.Omega.{arith}
-use borrow.Author.Tests.{eqb-true, eqb-false, ne-eqb}
-use lib.Dec.{eqb}
+use borrow.Author.Tests.{eqb-true, eqb-false, eq-eqb, ne-eqb, ltb-true, ltb-false}
+use lib.Dec.{eqb, ltb}
+use lib.Count.{ones}
 use lib.ListN.{length}
-use Rattle.laws.proofs.Rules.{tests, picks}
+use Rattle.laws.proofs.Rules.{tests, picks, picked-by, by-test}
 use Rattle.hamming.specs.declared.WrongBit.{WrongBit}
 use Rattle.hamming.specs.declared.WrongBit.the-variants.{None, Check, Data}
 use Rattle.hamming.specs.declared.Decoded.{Decoded}
-use Rattle.hamming.specs.declared.Decoded.the-variants.{Word, Uncorrectable as NoWord}
-use Rattle.hamming.specs.Correction.{Coded, encoded, decoded, flip, Protected, NoneOrProtected, flagOf, Within, Corrects}
+use Rattle.hamming.specs.declared.Decoded.the-variants.{Word, Uncorrectable}
+use Rattle.hamming.specs.Correction.{Coded, encoded, syndromeOf, decoded, flip, Protected, NoneOrProtected, flipEach, EachProtected, flagOf, Within, Corrects}
 use Rattle.hamming.proofs.Correction.{correction}
+use Rattle.hamming.proofs.Place.{place-laws}
 use Rattle.hamming.proofs.Uses.{short-columns-good, long-columns-good}
 use Rattle.frame.specs.declared.Kind.{Kind}
 use Rattle.frame.specs.declared.Kind.the-variants.{Short, Long}
 use Rattle.frame.specs.declared.Fields.{Fields}
 use Rattle.frame.specs.declared.Encoded.{Encoded}
 use Rattle.frame.specs.declared.Judged.{Judged}
-use Rattle.frame.specs.declared.Judged.the-variants.{StopZero, Uncorrectable, FixedZero, Good}
+use Rattle.frame.specs.declared.Judged.the-variants.{StopZero, EvenSyndrome, OddSyndrome, FixedZero, Good}
 use Rattle.frame.specs.declared.Answer.{Answer}
 use Rattle.frame.specs.Numbers.{dataBits, checkBits, frameNumber, stopBit, received, isFrame}
 use Rattle.frame.specs.Encode.{wordOf, fieldsOf, encodeWord, refused13, encodeLong}
-use Rattle.frame.specs.Decode.{fixedZero, judgedWord, judged, bareAnswer, answerTo, decodeFrame}
+use Rattle.frame.specs.Place.{placeIn, flipAt}
+use Rattle.frame.specs.Decode.{fixedZero, judgedWord, judgedReceived, judged, bareAnswer, answerTo, decodeFrame}
 use Rattle.frame.specs.Frames
 use Rattle.frame.proofs.Numbers.{Fits, stop-of, received-of, is-frame-of, received-fits, made-of-received, flipped, flipped-fits, stop-flipped, lead-flipped}
+use Rattle.frame.proofs.Place.{flips-at-place, flipped-back}
 use Rattle.frame.proofs.Words.{not-zero, fields-back, word-fits, fixed-one, word-back, fields-in-range}
 
 encodes : (columns : List ℕ) (kind : Kind) → Frames.EncodesInRange columns kind
@@ -52,13 +56,13 @@ refuses columns Long fields (inr over) = search (second, tests)
 -- ---- a frame number as it was put together
 
 judged-sent : (columns : List ℕ) (kind : Kind) (sent : Coded) → Fits kind sent
-    → judged columns kind (frameNumber kind sent 1) ≡ judgedWord kind (decoded columns sent)
+    → judged columns kind (frameNumber kind sent 1) ≡ judgedReceived columns kind sent
 unfolding judged
 judged-sent columns kind sent f =
-    rw (stop-of kind sent 1 (omega arith)) (ap (λ (c : Coded). judgedWord kind (decoded columns c)) (received-of kind sent 1 (omega arith) f))
+    rw (stop-of kind sent 1 (omega arith)) (ap (judgedReceived columns kind) (received-of kind sent 1 (omega arith) f))
 
 decode-sent : (columns : List ℕ) (kind : Kind) (sent : Coded) → Fits kind sent
-    → decodeFrame columns kind (frameNumber kind sent 1) ≡ answerTo kind (judgedWord kind (decoded columns sent))
+    → decodeFrame columns kind (frameNumber kind sent 1) ≡ answerTo kind (judgedReceived columns kind sent)
 unfolding decodeFrame
 decode-sent columns kind sent f = rw (is-frame-of kind sent 1 (omega arith) f, judged-sent columns kind sent f)
 
@@ -69,19 +73,33 @@ unfolding decodeFrame judged
 decode-stopped columns kind number i e = rw (i, e)
 
 decode-received : (columns : List ℕ) (kind : Kind) (number : ℕ) → isFrame kind number ≡ true → (stopBit number ≡ 0 → ⊥)
-    → decodeFrame columns kind number ≡ answerTo kind (judgedWord kind (decoded columns (received kind number)))
+    → decodeFrame columns kind number ≡ answerTo kind (judgedReceived columns kind (received kind number))
 unfolding decodeFrame judged
 decode-received columns kind number i e = rw (i, ne-eqb (stopBit number) 0 e)
 
--- the answer to a decoded word of fields in range
+-- the answer to a decoded word, and the syndrome that it was decoded by
+abbrev answerBy : Kind → ℕ → Decoded → Answer
+answerBy kind s d = answerTo kind (judgedWord kind s d)
+
+-- where a word is answered, the syndrome makes no difference
+abbrev answerWord : Kind → ℕ → Bool → WrongBit → Answer
+answerWord kind word flag p = answerBy kind 0 (Word word flag p)
+
+-- a word of fields in range
 answer-good : (kind : Kind) (fields : Fields) (flag : Bool) (p : WrongBit) → Frames.InRange kind fields
-    → answerTo kind (judgedWord kind (Word (wordOf kind fields) flag p)) ≡ Frames.fieldsAnswer kind (cond flag 1 0) fields
+    → answerWord kind (wordOf kind fields) flag p ≡ Frames.fieldsAnswer kind (cond flag 1 0) (placeIn kind p) fields
 answer-good kind fields flag p r = rw (fixed-one kind fields r, fields-back kind fields r)
 
--- and to one whose fixed bit is 0
-answer-fixed : (kind : Kind) (word : ℕ) (flag : Bool) (p : WrongBit) → fixedZero kind word ≡ true
-    → answerTo kind (judgedWord kind (Word word flag p)) ≡ bareAnswer 0 9 word
+-- one whose fixed bit is 0
+answer-fixed : (kind : Kind) (word : ℕ) (flag : Bool) (p : WrongBit) → fixedZero kind word ≡ true → answerWord kind word flag p ≡ bareAnswer 0 9 word
 answer-fixed kind word flag p z = rw z
+
+-- and one that can't be corrected, by the number of ones in the syndrome
+answer-even : (kind : Kind) (s : ℕ) (d : Decoded) → d ≡ Uncorrectable → ones s % 2 ≡ 0 → answerBy kind s d ≡ bareAnswer 0 8 0
+answer-even kind s d e even = rw (e, eq-eqb (ones s % 2) 0 even)
+
+answer-odd : (kind : Kind) (s : ℕ) (d : Decoded) → d ≡ Uncorrectable → (ones s % 2 ≡ 0 → ⊥) → answerBy kind s d ≡ bareAnswer 0 11 0
+answer-odd kind s d e odd = rw (e, ne-eqb (ones s % 2) 0 odd)
 
 decode-refused : (columns : List ℕ) (kind : Kind) (number : ℕ) → isFrame kind number ≡ false → decodeFrame columns kind number ≡ bareAnswer 12 0 0
 unfolding decodeFrame
@@ -104,26 +122,28 @@ none-or n w (Data i) b = b
 -- ---- conversely: what led to an answer
 
 -- the fields are answered only to a good frame
-record Answered (columns : List ℕ) (kind : Kind) (number flag word : ℕ) (fields : Fields) : Type 0 where
+record Answered (columns : List ℕ) (kind : Kind) (number flag place word : ℕ) (fields : Fields) : Type 0 where
   pub is-frame : isFrame kind number ≡ true
   pub raised : Bool
   pub wrong : WrongBit
   pub judged-good : judged columns kind number ≡ Good word raised wrong
   pub flag-of : flag ≡ cond raised 1 0
+  pub place-of : place ≡ placeIn kind wrong
   pub fields-of : fields ≡ fieldsOf kind word
 
-abbrev goodAnswer : ℕ → ℕ → Fields → Answer
-goodAnswer flag word fields = record { refusal = 0; verdict = 0; corrected = flag; word = word; fields = fields }
+abbrev goodAnswer : ℕ → ℕ → ℕ → Fields → Answer
+goodAnswer flag place word fields = record { refusal = 0; verdict = 0; corrected = flag; place = place; word = word; fields = fields }
 
-answered : (columns : List ℕ) (kind : Kind) (number flag word : ℕ) (fields : Fields) → decodeFrame columns kind number ≡ goodAnswer flag word fields
-    → Answered columns kind number flag word fields
+answered : (columns : List ℕ) (kind : Kind) (number flag place word : ℕ) (fields : Fields) → decodeFrame columns kind number ≡ goodAnswer flag place word fields
+    → Answered columns kind number flag place word fields
 unfolding decodeFrame
-answered columns kind number flag word fields = by-frame (isFrame kind number) refl
+answered columns kind number flag place word fields = by-frame (isFrame kind number) refl
   where
-    by-judged : isFrame kind number ≡ true → (j : Judged) → judged columns kind number ≡ j → answerTo kind j ≡ goodAnswer flag word fields
-        → Answered columns kind number flag word fields
+    by-judged : isFrame kind number ≡ true → (j : Judged) → judged columns kind number ≡ j → answerTo kind j ≡ goodAnswer flag place word fields
+        → Answered columns kind number flag place word fields
     by-judged i StopZero e a = let z : _≡_ {A = ℕ} 7 0 = ap (λ (x : Answer). x .verdict) a in absurd (omega arith)
-    by-judged i Uncorrectable e a = let z : _≡_ {A = ℕ} 8 0 = ap (λ (x : Answer). x .verdict) a in absurd (omega arith)
+    by-judged i EvenSyndrome e a = let z : _≡_ {A = ℕ} 8 0 = ap (λ (x : Answer). x .verdict) a in absurd (omega arith)
+    by-judged i OddSyndrome e a = let z : _≡_ {A = ℕ} 11 0 = ap (λ (x : Answer). x .verdict) a in absurd (omega arith)
     by-judged i (FixedZero w) e a = let z : _≡_ {A = ℕ} 9 0 = ap (λ (x : Answer). x .verdict) a in absurd (omega arith)
     by-judged i (Good w raised wrong) e a =
         let same : w ≡ word = ap (λ (x : Answer). x .word) a in
@@ -133,11 +153,12 @@ answered columns kind number flag word fields = by-frame (isFrame kind number) r
           wrong = wrong;
           judged-good = e ∙ ap (λ (x : ℕ). Good x raised wrong) same;
           flag-of = sym (ap (λ (x : Answer). x .corrected) a);
+          place-of = sym (ap (λ (x : Answer). x .place) a);
           fields-of = sym (ap (λ (x : Answer). x .fields) a) ∙ ap (fieldsOf kind) same;
         }
 
-    by-frame : (b : Bool) → isFrame kind number ≡ b → cond b (answerTo kind (judged columns kind number)) (bareAnswer 12 0 0) ≡ goodAnswer flag word fields
-        → Answered columns kind number flag word fields
+    by-frame : (b : Bool) → isFrame kind number ≡ b → cond b (answerTo kind (judged columns kind number)) (bareAnswer 12 0 0) ≡ goodAnswer flag place word fields
+        → Answered columns kind number flag place word fields
     by-frame true i a = by-judged i (judged columns kind number) refl a
     by-frame false i a = let z : _≡_ {A = ℕ} 12 0 = ap (λ (x : Answer). x .refusal) a in absurd (omega arith)
 
@@ -160,24 +181,75 @@ good-frame columns kind number word raised wrong = by-stop (eqb (stopBit number)
         let decoded-same : Word w r p ≡ Word word raised wrong = cc in
         record { stop-one = s; word-decoded = e ∙ decoded-same; fixed-not-zero = rw same at z }
 
-    by-decoded : stopBit number ≡ 1 → (d : Decoded) → decoded columns (received kind number) ≡ d → judgedWord kind d ≡ Good word raised wrong
-        → GoodFrame columns kind number word raised wrong
-    by-decoded s (Word w r p) e g = by-fixed s w r p e (fixedZero kind w) refl g
-    by-decoded s NoWord e g = absurd (let no-way : _≡_ {A = ℕ} 0 1 = cc in omega arith)
+    never-good : (even : Bool) → cond even EvenSyndrome OddSyndrome ≡ Good word raised wrong → ⊥
+    never-good true g = let no-way : _≡_ {A = ℕ} 0 1 = cc in omega arith
+    never-good false g = let no-way : _≡_ {A = ℕ} 0 1 = cc in omega arith
 
-    by-stop : (t : Bool) → eqb (stopBit number) 0 ≡ t → cond t StopZero (judgedWord kind (decoded columns (received kind number))) ≡ Good word raised wrong
+    by-decoded : stopBit number ≡ 1 → (d : Decoded) → decoded columns (received kind number) ≡ d
+        → judgedWord kind (syndromeOf columns (received kind number)) d ≡ Good word raised wrong → GoodFrame columns kind number word raised wrong
+    by-decoded s (Word w r p) e g = by-fixed s w r p e (fixedZero kind w) refl g
+    by-decoded s Uncorrectable e g = absurd (never-good (eqb (ones (syndromeOf columns (received kind number)) % 2) 0) g)
+
+    by-stop : (t : Bool) → eqb (stopBit number) 0 ≡ t → cond t StopZero (judgedReceived columns kind (received kind number)) ≡ Good word raised wrong
         → GoodFrame columns kind number word raised wrong
     by-stop true s g = absurd (let no-way : _≡_ {A = ℕ} 0 1 = cc in omega arith)
     by-stop false s g = by-decoded (not-zero number (eqb-false (stopBit number) 0 s)) (decoded columns (received kind number)) refl g
 
 -- the verdict on a decoded word is 0 or 9
 not-good : (kind : Kind) (word : ℕ) (flag : Bool) (p : WrongBit) (verdict : ℕ) → (0 ≡ verdict → ⊥) → (9 ≡ verdict → ⊥)
-    → answerTo kind (judgedWord kind (Word word flag p)) ≡ bareAnswer 0 verdict 0 → ⊥
+    → answerWord kind word flag p .verdict ≡ verdict → ⊥
 not-good kind word flag p verdict h k = by-fixed (fixedZero kind word)
   where
-    by-fixed : (t : Bool) → answerTo kind (cond t (FixedZero word) (Good word flag p)) ≡ bareAnswer 0 verdict 0 → ⊥
-    by-fixed true e = k (ap (λ (x : Answer). x .verdict) e)
-    by-fixed false e = h (ap (λ (x : Answer). x .verdict) e)
+    by-fixed : (t : Bool) → answerTo kind (cond t (FixedZero word) (Good word flag p)) .verdict ≡ verdict → ⊥
+    by-fixed true e = k e
+    by-fixed false e = h e
+
+-- 8 is answered only with an even number of ones in the syndrome, and 11 only with an odd one
+only-even : (kind : Kind) (s : ℕ) (d : Decoded) → answerBy kind s d .verdict ≡ 8 → ones s % 2 ≡ 0
+only-even kind s (Word word flag p) e = absurd (not-good kind word flag p 8 (λ z. omega arith) (λ z. omega arith) e)
+only-even kind s Uncorrectable e = by-ones (eqb (ones s % 2) 0) refl e
+  where
+    by-ones : (even : Bool) → eqb (ones s % 2) 0 ≡ even → answerTo kind (cond even EvenSyndrome OddSyndrome) .verdict ≡ 8 → ones s % 2 ≡ 0
+    by-ones true t e = eqb-true (ones s % 2) 0 t
+    by-ones false t e = absurd (let z : _≡_ {A = ℕ} 11 8 = e in omega arith)
+
+only-odd : (kind : Kind) (s : ℕ) (d : Decoded) → answerBy kind s d .verdict ≡ 11 → ones s % 2 ≡ 1
+only-odd kind s (Word word flag p) e = absurd (not-good kind word flag p 11 (λ z. omega arith) (λ z. omega arith) e)
+only-odd kind s Uncorrectable e = by-ones (eqb (ones s % 2) 0) refl e
+  where
+    by-ones : (even : Bool) → eqb (ones s % 2) 0 ≡ even → answerTo kind (cond even EvenSyndrome OddSyndrome) .verdict ≡ 11 → ones s % 2 ≡ 1
+    by-ones true t e = absurd (let z : _≡_ {A = ℕ} 8 11 = e in omega arith)
+    by-ones false t e = not-zero (ones s) (eqb-false (ones s % 2) 0 t)
+
+-- so the verdict tells an odd number of flips from an even one, if the syndrome's ones do
+flips-show : (kind : Kind) (s : ℕ) (d : Decoded) (count verdict : ℕ) → ones s % 2 ≡ count % 2 → verdict ≡ answerBy kind s d .verdict
+    → (count ≤ 1 → (verdict ≢ 8) × (verdict ≢ 11)) → Frames.FlipsShow count verdict
+flips-show kind s d count verdict parity shown few = record {
+  odd-not-8 = λ odd e. omega (arith, odd, parity, only-even kind s d (sym shown ∙ e));
+  even-not-11 = even-not-11;
+  two-or-more = λ e. more (λ l. few l .0 e);
+  three-or-more = λ e. let two : 2 ≤ count = more (λ l. few l .1 e) in omega (arith, not-zero count (λ even. even-not-11 even e));
+}
+  where
+    even-not-11 : count % 2 ≡ 0 → verdict ≢ 11
+    even-not-11 even e = omega (arith, even, parity, only-odd kind s d (sym shown ∙ e))
+
+    more : (count ≤ 1 → ⊥) → 2 ≤ count
+    more no-more = by-test (ltb 1 count) (λ t. ltb-true 1 count t) (λ t. absurd (no-more (ltb-false 1 count t)))
+
+-- what holds of the answer to a frame, and of a refusal, holds of every answer
+decoded-as : (columns : List ℕ) (kind : Kind) (number : ℕ) (P : Answer → Type 0) → (isFrame kind number ≡ true → P (answerTo kind (judged columns kind number)))
+    → P (bareAnswer 12 0 0) → P (decodeFrame columns kind number)
+unfolding decodeFrame
+decoded-as columns kind number P frame refused = picked-by P (isFrame kind number) frame (λ e. refused)
+
+-- an answer without flag has no place
+no-place : (kind : Kind) (refusal verdict word : ℕ) → Frames.PlaceByFlag kind (bareAnswer refusal verdict word)
+no-place kind refusal verdict word = record { zero-exactly = (λ z. refl, λ z. refl); last = omega arith }
+
+zero-flag : (flag : Bool) → _≡_ {A = ℕ} (cond flag 1 0) 0 → flag ≡ false
+zero-flag true e = absurd (omega arith)
+zero-flag false e = refl
 
 -- the number is an encoding with at most that bit flipped
 record Near (columns : List ℕ) (kind : Kind) (number word : ℕ) (raised : Bool) (wrong : WrongBit) : Type 0 where
@@ -199,15 +271,14 @@ frame-theorem columns kind len good = record {
   one-flip =
       λ fields p r b.
       decode-within (wordOf kind fields) p (word-fits kind fields r) (none-or _ _ p b)
-      ∙ ap (λ (t : Bool). answer (Word (wordOf kind fields) t p)) (flag-raised _ _ p b) ∙ answer-good kind fields true p r;
+      ∙ ap (λ (t : Bool). answerWord kind (wordOf kind fields) t p) (flag-raised _ _ p b) ∙ answer-good kind fields true p r;
   two-flips =
       λ word p q h b d ne.
-      let start = fits-word word h in
-      let f = flipped-fits kind (encoded columns word) p start (none-or _ _ p b) in
-      ap (λ (n : ℕ). decodeFrame columns kind (Frames.flipProtected kind q n)) (flipped kind (encoded columns word) 1 p (omega arith) start (none-or _ _ p b))
-      ∙ ap (decodeFrame columns kind) (flipped kind (flip p (encoded columns word)) 1 q (omega arith) f (none-or _ _ q d))
-      ∙ decode-sent columns kind (flip q (flip p (encoded columns word))) (flipped-fits kind (flip p (encoded columns word)) q f (none-or _ _ q d))
-      ∙ ap answer (corrects .two-flips word p q (in-columns p b) (in-columns q d) ne);
+      decode-flips word (q ∷ p ∷ []) h (d, (b, tt))
+      ∙ answer-even kind _ _ (corrects .two-flips word p q (in-columns p b) (in-columns q d) ne) (parity word (q ∷ p ∷ []) (d, (b, tt)));
+  any-flips = any-flips;
+  flips-at-place = flips-at-place kind;
+  place-answered = place-answered;
   stop-flip =
       λ fields r.
       ap (decodeFrame columns kind) (stop-flipped kind (sent fields))
@@ -227,9 +298,6 @@ frame-theorem columns kind len good = record {
     sent : Fields → Coded
     sent fields = encoded columns (wordOf kind fields)
 
-    answer : Decoded → Answer
-    answer d = answerTo kind (judgedWord kind d)
-
     fits-word : (word : ℕ) → word < 2 ^ dataBits kind → Fits kind (encoded columns word)
     fits-word word h = record { bits-fit = h; check-fits = corrects .check-fits word }
 
@@ -244,14 +312,65 @@ frame-theorem columns kind len good = record {
 
     -- an encoded word with no bit or one protected bit flipped is decoded as that word
     decode-within : (word : ℕ) (p : WrongBit) → word < 2 ^ dataBits kind → NoneOrProtected (dataBits kind) (checkBits kind) p
-        → decodeFrame columns kind (Frames.flipProtected kind p (encodeWord columns kind word)) ≡ answer (Word word (flagOf p) p)
+        → decodeFrame columns kind (Frames.flipProtected kind p (encodeWord columns kind word)) ≡ answerWord kind word (flagOf p) p
     decode-within word p h b =
         ap (decodeFrame columns kind) (flipped kind (encoded columns word) 1 p (omega arith) (fits-word word h) b)
         ∙ decode-sent columns kind (flip p (encoded columns word)) (flipped-fits kind (encoded columns word) p (fits-word word h) b)
-        ∙ ap answer (decoded-within word p b)
+        ∙ ap (answerBy kind (syndromeOf columns (flip p (encoded columns word)))) (decoded-within word p b)
 
     in-columns : (p : WrongBit) → Frames.ProtectedIn kind p → Protected (length columns) (checkBits kind) p
     in-columns p b = subst⁻¹ (λ (n : ℕ). Protected n (checkBits kind) p) len b
+
+    -- any number of protected bits flipped
+    each-in-columns : (flips : List WrongBit) → Frames.EachProtectedIn kind flips → EachProtected (length columns) (checkBits kind) flips
+    each-in-columns flips b = subst⁻¹ (λ (n : ℕ). EachProtected n (checkBits kind) flips) len b
+
+    parity : (word : ℕ) (flips : List WrongBit) → Frames.EachProtectedIn kind flips
+        → ones (syndromeOf columns (flipEach flips (encoded columns word))) % 2 ≡ length flips % 2
+    parity word flips b = corrects .flips-parity word flips (each-in-columns flips b)
+
+    fits-flips : (word : ℕ) (flips : List WrongBit) → word < 2 ^ dataBits kind → Frames.EachProtectedIn kind flips
+        → Fits kind (flipEach flips (encoded columns word))
+    fits-flips word [] h b = fits-word word h
+    fits-flips word (p ∷ ps) h b = flipped-fits kind (flipEach ps (encoded columns word)) p (fits-flips word ps h (b .1)) (none-or _ _ p (b .0))
+
+    number-flips : (word : ℕ) (flips : List WrongBit) → word < 2 ^ dataBits kind → Frames.EachProtectedIn kind flips
+        → Frames.flipEachProtected kind flips (encodeWord columns kind word) ≡ frameNumber kind (flipEach flips (encoded columns word)) 1
+    number-flips word [] h b = refl
+    number-flips word (p ∷ ps) h b =
+        ap (Frames.flipProtected kind p) (number-flips word ps h (b .1))
+        ∙ flipped kind (flipEach ps (encoded columns word)) 1 p (omega arith) (fits-flips word ps h (b .1)) (none-or _ _ p (b .0))
+
+    decode-flips : (word : ℕ) (flips : List WrongBit) → word < 2 ^ dataBits kind → Frames.EachProtectedIn kind flips
+        → decodeFrame columns kind (Frames.flipEachProtected kind flips (encodeWord columns kind word))
+        ≡ answerTo kind (judgedReceived columns kind (flipEach flips (encoded columns word)))
+    decode-flips word flips h b =
+        ap (decodeFrame columns kind) (number-flips word flips h b)
+        ∙ decode-sent columns kind (flipEach flips (encoded columns word)) (fits-flips word flips h b)
+
+    -- no flip, and one, give neither 8 nor 11
+    few-flips : (word : ℕ) (flips : List WrongBit) (verdict : ℕ) → (0 ≡ verdict → ⊥) → (9 ≡ verdict → ⊥) → word < 2 ^ dataBits kind
+        → Frames.EachProtectedIn kind flips → length flips ≤ 1
+        → decodeFrame columns kind (Frames.flipEachProtected kind flips (encodeWord columns kind word)) .verdict ≡ verdict → ⊥
+    few-flips word [] verdict m n h b l e =
+        not-good kind word false None verdict m n (sym (ap (λ (x : Answer). x .verdict) (decode-within word None h tt)) ∙ e)
+    few-flips word (p ∷ []) verdict m n h b l e =
+        not-good kind word (flagOf p) p verdict m n (sym (ap (λ (x : Answer). x .verdict) (decode-within word p h (none-or _ _ p (b .0)))) ∙ e)
+    few-flips word (p ∷ q ∷ ps) verdict m n h b l e = omega arith
+
+    any-flips : Frames.AnyFlips columns kind
+    any-flips word flips h b =
+        let word-flipped = flipEach flips (encoded columns word) in
+        let fit = fits-flips word flips h b in
+        let number-is = number-flips word flips h b in
+        record {
+          is-frame = ap (isFrame kind) number-is ∙ is-frame-of kind word-flipped 1 (omega arith) fit;
+          stop-1 = ap stopBit number-is ∙ stop-of kind word-flipped 1 (omega arith);
+          shows =
+              flips-show kind (syndromeOf columns word-flipped) (decoded columns word-flipped) (length flips) _ (parity word flips b)
+              (ap (λ (x : Answer). x .verdict) (decode-flips word flips h b))
+              (λ l. (few-flips word flips _ (λ z. omega arith) (λ z. omega arith) h b l, few-flips word flips _ (λ z. omega arith) (λ z. omega arith) h b l));
+        }
 
     -- a decoded word is that of an encoding, with the named bit flipped
     near : (number word : ℕ) (raised : Bool) (wrong : WrongBit) → isFrame kind number ≡ true → stopBit number ≡ 1
@@ -278,10 +397,10 @@ frame-theorem columns kind len good = record {
         bit = subst (λ (n : ℕ). NoneOrProtected n (checkBits kind) wrong) len (within .0 .bit)
 
     only-if : Frames.DecodedOnlyIf columns kind
-    only-if number flag word fields e = (a .wrong, encoding)
+    only-if number flag place word fields e = (a .wrong, encoding)
       where
-        a : Answered columns kind number flag word fields
-        a = answered columns kind number flag word fields e
+        a : Answered columns kind number flag place word fields
+        a = answered columns kind number flag place word fields e
 
         g : GoodFrame columns kind number word (a .raised) (a .wrong)
         g = good-frame columns kind number word (a .raised) (a .wrong) (a .judged-good)
@@ -292,44 +411,101 @@ frame-theorem columns kind len good = record {
         word-of : word ≡ wordOf kind fields
         word-of = sym (ap (wordOf kind) (a .fields-of) ∙ word-back kind word (n .word-below) (g .fixed-not-zero))
 
-        encoding : Frames.EncodingOf columns kind number flag word fields (a .wrong)
+        number-of : number ≡ Frames.flipProtected kind (a .wrong) (encodeWord columns kind (wordOf kind fields))
+        number-of = n .number-of ∙ ap (λ (x : ℕ). Frames.flipProtected kind (a .wrong) (encodeWord columns kind x)) word-of
+
+        encoding : Frames.EncodingOf columns kind number flag place word fields (a .wrong)
         encoding = record {
           stop = g .stop-one;
-          number-is = n .number-of ∙ ap (λ (x : ℕ). Frames.flipProtected kind (a .wrong) (encodeWord columns kind x)) word-of;
+          number-is = number-of;
           bit = n .protected;
           named = a .judged-good ∙ ap (λ (x : Bool). Good word x (a .wrong)) (n .flag-of-bit);
           flag-is = a .flag-of ∙ ap (λ (x : Bool). cond x 1 0) (n .flag-of-bit);
+          place-is = a .place-of;
+          clean-is =
+              ap₂ (flipAt kind) (a .place-of) number-of ∙ flipped-back kind (encodeWord columns kind (wordOf kind fields)) (a .wrong) (n .protected);
           word-is = word-of;
           in-range = subst⁻¹ (Frames.InRange kind) (a .fields-of) (fields-in-range kind word (n .word-below));
         }
 
+    place-answered : Frames.PlaceAnswered columns kind
+    place-answered number =
+        decoded-as columns kind number (Frames.PlaceByFlag kind) (λ i. by-judged i (judged columns kind number) refl) (no-place kind 12 0 0)
+      where
+        by-judged : isFrame kind number ≡ true → (j : Judged) → judged columns kind number ≡ j → Frames.PlaceByFlag kind (answerTo kind j)
+        by-judged i StopZero e = no-place kind 0 7 0
+        by-judged i EvenSyndrome e = no-place kind 0 8 0
+        by-judged i OddSyndrome e = no-place kind 0 11 0
+        by-judged i (FixedZero word) e = no-place kind 0 9 word
+        by-judged i (Good word raised wrong) e =
+            let g = good-frame columns kind number word raised wrong e in
+            let n = near number word raised wrong i (g .stop-one) (g .word-decoded) in
+            let laws = place-laws (dataBits kind) (checkBits kind) in
+            let exactly = laws .zero-exactly wrong (n .protected) in
+            record {
+              zero-exactly = (
+                λ z. ap (λ (t : Bool). cond t 1 0) (n .flag-of-bit ∙ exactly .0 z),
+                λ z. exactly .1 (sym (n .flag-of-bit) ∙ zero-flag raised z),
+              );
+              last = laws .last wrong;
+            }
+
     stop-exactly : Frames.StopExactly columns kind
     stop-exactly number i = (λ e. by-stop (eqb (stopBit number) 0) refl e, λ e. decode-stopped columns kind number i e)
       where
-        never-7 : (d : Decoded) → answer d ≡ bareAnswer 0 7 0 → ⊥
-        never-7 NoWord e = let z : _≡_ {A = ℕ} 8 7 = ap (λ (x : Answer). x .verdict) e in omega arith
-        never-7 (Word word flag p) e = not-good kind word flag p 7 (λ z. omega arith) (λ z. omega arith) e
+        never-7 : (s : ℕ) (d : Decoded) → answerBy kind s d .verdict ≡ 7 → ⊥
+        never-7 s Uncorrectable e = by-ones (eqb (ones s % 2) 0) e
+          where
+            by-ones : (even : Bool) → answerTo kind (cond even EvenSyndrome OddSyndrome) .verdict ≡ 7 → ⊥
+            by-ones true e = let z : _≡_ {A = ℕ} 8 7 = e in omega arith
+            by-ones false e = let z : _≡_ {A = ℕ} 11 7 = e in omega arith
+        never-7 s (Word word flag p) e = not-good kind word flag p 7 (λ z. omega arith) (λ z. omega arith) e
 
         by-stop : (t : Bool) → eqb (stopBit number) 0 ≡ t → decodeFrame columns kind number ≡ bareAnswer 0 7 0 → stopBit number ≡ 0
         by-stop true z e = eqb-true (stopBit number) 0 z
         by-stop false z e =
-            absurd (never-7 (decoded columns (received kind number)) (sym (decode-received columns kind number i (eqb-false (stopBit number) 0 z)) ∙ e))
+            absurd
+            (never-7 _ (decoded columns (received kind number))
+            (ap (λ (x : Answer). x .verdict) (sym (decode-received columns kind number i (eqb-false (stopBit number) 0 z)) ∙ e)))
 
     exactly : Frames.UncorrectableExactly columns kind
-    exactly number i s = (
-      λ e word p h b n.
-          not-good kind word (flagOf p) p _ (λ z. omega arith) (λ z. omega arith)
-          (sym (decode-within word p h b) ∙ ap (decodeFrame columns kind) (sym n) ∙ e),
-      λ none. decodes ∙ ap answer (no-word none (decoded columns (received kind number)) refl),
-    )
+    exactly number i s = record {
+      eight = (
+        λ e. (none-near 8 (λ z. omega arith) (λ z. omega arith) e, only-even kind syndrome word-decoded (verdict-of e)),
+        λ n. decodes ∙ answer-even kind syndrome word-decoded (no-word (n .0) word-decoded refl) (n .1),
+      );
+      eleven = (
+        λ e. (none-near 11 (λ z. omega arith) (λ z. omega arith) e, only-odd kind syndrome word-decoded (verdict-of e)),
+        λ n. decodes ∙ answer-odd kind syndrome word-decoded (no-word (n .0) word-decoded refl) (not-even (n .1)),
+      );
+    }
       where
-        decodes : decodeFrame columns kind number ≡ answer (decoded columns (received kind number))
+        syndrome : ℕ
+        syndrome = syndromeOf columns (received kind number)
+
+        word-decoded : Decoded
+        word-decoded = decoded columns (received kind number)
+
+        decodes : decodeFrame columns kind number ≡ answerTo kind (judgedReceived columns kind (received kind number))
         decodes =
             ap (decodeFrame columns kind) (sym (made-of-received kind number i) ∙ ap (frameNumber kind (received kind number)) s)
             ∙ decode-sent columns kind (received kind number) (received-fits kind number)
 
-        no-word : Frames.NoneNear columns kind number → (d : Decoded) → decoded columns (received kind number) ≡ d → d ≡ NoWord
-        no-word none NoWord e = refl
+        verdict-of : {verdict : ℕ} → decodeFrame columns kind number ≡ bareAnswer 0 verdict 0
+            → answerTo kind (judgedReceived columns kind (received kind number)) .verdict ≡ verdict
+        verdict-of e = ap (λ (x : Answer). x .verdict) (sym decodes ∙ e)
+
+        none-near : (verdict : ℕ) → (0 ≡ verdict → ⊥) → (9 ≡ verdict → ⊥) → decodeFrame columns kind number ≡ bareAnswer 0 verdict 0
+            → Frames.NoneNear columns kind number
+        none-near verdict m k e word p h b n =
+            not-good kind word (flagOf p) p verdict m k
+            (ap (λ (x : Answer). x .verdict) (sym (decode-within word p h b) ∙ ap (decodeFrame columns kind) (sym n) ∙ e))
+
+        not-even : {n : ℕ} → n ≡ 1 → n ≡ 0 → ⊥
+        not-even o z = omega arith
+
+        no-word : Frames.NoneNear columns kind number → (d : Decoded) → decoded columns (received kind number) ≡ d → d ≡ Uncorrectable
+        no-word none Uncorrectable e = refl
         no-word none (Word word raised wrong) e =
             let n = near number word raised wrong i s e in
             absurd (none word wrong (n .word-below) (n .protected) (n .number-of))

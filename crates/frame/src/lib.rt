@@ -1,21 +1,25 @@
-// Document 01, "Frames on channel B": frames as numbers, first bit sent most significant.
+// Document 01, "Frames on channel B", with document 02, Q-8: frames as numbers, first bit sent most
+// significant.
 //
 // There is no state: fields, words and frame numbers go by value. Columns are only read, and are
 // lent: below the public encoders and decoders, every function that needs columns takes them.
 ghost use mathlib.Core.Path.{_≡_};
 ghost use mathlib.Core.Bool.{cond};
-ghost use Rattle.hamming.specs.Code.{inUse};
+ghost use Prim.Native.Nat.{_-_};
+ghost use Rattle.hamming.specs.Code.{inUse, bySyndrome};
 ghost use Rattle.hamming.specs.Columns.{shortColumns, longColumns};
-ghost use Rattle.frame.specs.Numbers.{frameBits, isFrame, wordBits, checkBitsOf};
+ghost use Rattle.frame.specs.Numbers.{dataBits, frameBits, isFrame, wordBits, checkBitsOf};
 ghost use Rattle.frame.specs.Columns.{columnsFor};
 ghost use Rattle.frame.specs.Encode.{fieldsOf, encodeWord, encodeShort, encodeLong};
-ghost use Rattle.frame.specs.Decode.{fixedZero, judged, bareAnswer, answerTo, finishedAnswer, decodeFrame};
+ghost use Rattle.frame.specs.Place.{placeIn, places};
+ghost use Rattle.frame.specs.Decode.{fixedZero, judgedWord, judged, bareAnswer, answerTo, finishedAnswer, decodeFrame};
 ghost use Rattle.frame.specs.declared.Kind.the-variants.{Short, Long};
 use hamming::Decoded;
 use hamming::WrongBit;
+use hamming::by_syndrome;
 use hamming::check_number;
 use hamming::column_table;
-use hamming::decode_word;
+use hamming::syndrome;
 
 // The two frames: broadcast, and individually addressed.
 pub enum Kind {
@@ -42,7 +46,8 @@ pub struct Fields {
 // What a frame is judged to be before a receiver looks at its fields.
 pub enum Judged {
     StopZero,
-    Uncorrectable,
+    EvenSyndrome,
+    OddSyndrome,
     FixedZero {
         word: u32,
     },
@@ -59,6 +64,7 @@ pub struct Answer {
     pub refusal: u8,
     pub verdict: u8,
     pub corrected: u8,
+    pub place: u8,
     pub word: u32,
     pub fields: Fields,
 }
@@ -163,21 +169,22 @@ fn fixed_zero(kind: Kind, word: u32) -> bool
     }
 }
 
-// Rows 7, 8 and 9 of document 01's table of verdicts, in its order.
-pub fn judge(columns: &[u8], kind: Kind, number: u64) -> Judged
-    ensures { λ r. ⌜ r ≡ judged (inUse (now (columns .entry))) kind number ⌝ }
+// Rows 8, 11 and 9 of the table of verdicts, by the syndrome of these word bits. The decoder's enum is
+// taken apart; the else branch leaves with an uncorrectable verdict, by the number of ones.
+fn judge_word(columns: &[u8], kind: Kind, word: u32, syndrome: u8) -> Judged
+    ensures { λ r. ⌜ r ≡ judgedWord kind syndrome (bySyndrome (inUse (now (columns .entry))) word syndrome) ⌝ }
 {
-    if number % 2 == 0 {
-        return Judged::StopZero;
-    }
-    let decoded = decode_word(columns, word_bits(kind, number), check_bits(kind, number));
+    let decoded = by_syndrome(columns, word, syndrome);
     let Decoded::Word {
         data,
         corrected,
         wrong,
     } = decoded
     else {
-        return Judged::Uncorrectable;
+        if u8::count_ones(syndrome) % 2 == 0 {
+            return Judged::EvenSyndrome;
+        }
+        return Judged::OddSyndrome;
     };
     if fixed_zero(kind, data) {
         return Judged::FixedZero { word: data };
@@ -187,6 +194,18 @@ pub fn judge(columns: &[u8], kind: Kind, number: u64) -> Judged
         corrected,
         wrong,
     }
+}
+
+// Rows 7, 8, 11 and 9 of the table of verdicts, in its order.
+pub fn judge(columns: &[u8], kind: Kind, number: u64) -> Judged
+    ensures { λ r. ⌜ r ≡ judged (inUse (now (columns .entry))) kind number ⌝ }
+{
+    if number % 2 == 0 {
+        return Judged::StopZero;
+    }
+    let word = word_bits(kind, number);
+    let check = check_bits(kind, number);
+    judge_word(columns, kind, word, syndrome(columns, word, check))
 }
 
 // The fields of a word.
@@ -219,7 +238,47 @@ fn flag_number(flag: bool) -> u8
     0
 }
 
-// An answer without flag and fields: they are all 0.
+// So many places before the last; 0 where there are fewer.
+fn place_before(last: u8, bit: usize) -> u8
+    ensures { λ r. ⌜ r ≡ last - bit ⌝ }
+{
+    if bit < last as usize {
+        return last - bit as u8;
+    }
+    0
+}
+
+// The place of the last data bit, and of the last protected bit.
+fn last_data_place(kind: Kind) -> u8
+    ensures { λ r. ⌜ r ≡ dataBits kind ⌝ }
+{
+    match kind {
+        Kind::Short => 8,
+        Kind::Long => 32,
+    }
+}
+
+fn last_place(kind: Kind) -> u8
+    ensures { λ r. ⌜ r ≡ places kind ⌝ }
+{
+    match kind {
+        Kind::Short => 13,
+        Kind::Long => 39,
+    }
+}
+
+// The place of a wrong bit in the order sent, 0 for none.
+pub fn place_of(kind: Kind, wrong: WrongBit) -> u8
+    ensures { λ r. ⌜ r ≡ placeIn kind wrong ⌝ }
+{
+    match wrong {
+        WrongBit::None => 0,
+        WrongBit::Check(bit) => place_before(last_place(kind), bit),
+        WrongBit::Data(bit) => place_before(last_data_place(kind), bit),
+    }
+}
+
+// An answer without flag, place and fields: they are all 0.
 fn bare_answer(refusal: u8, verdict: u8, word: u32) -> Answer
     ensures { λ r. ⌜ r ≡ bareAnswer refusal verdict word ⌝ }
 {
@@ -227,6 +286,7 @@ fn bare_answer(refusal: u8, verdict: u8, word: u32) -> Answer
         refusal,
         verdict,
         corrected: 0,
+        place: 0,
         word,
         fields: Fields {
             address: 0,
@@ -243,7 +303,8 @@ pub fn answer_to(kind: Kind, judged: Judged) -> Answer
 {
     match judged {
         Judged::StopZero => bare_answer(0, 7, 0),
-        Judged::Uncorrectable => bare_answer(0, 8, 0),
+        Judged::EvenSyndrome => bare_answer(0, 8, 0),
+        Judged::OddSyndrome => bare_answer(0, 11, 0),
         Judged::FixedZero { word } => bare_answer(0, 9, word),
         Judged::Good {
             word,
@@ -253,6 +314,7 @@ pub fn answer_to(kind: Kind, judged: Judged) -> Answer
             refusal: 0,
             verdict: 0,
             corrected: flag_number(corrected),
+            place: place_of(kind, wrong),
             word,
             fields: fields_of(kind, word),
         },

@@ -62,28 +62,28 @@ long-effect fields shown idle after range w m fresh =
     two-not-three : shown .verdict ≡ 2 → shown .verdict ≢ 3
     two-not-three v z = omega arith
 
--- the number is a frame, and decodes to these fields without a correction
-pub record DecodesTo (columns : Kind → List ℕ) (kind : Kind) (number flag : ℕ) (fields : Fields) : Type 0 where
+-- the number is a frame, and decodes to these fields with that flag and place
+pub record DecodesTo (columns : Kind → List ℕ) (kind : Kind) (number flag place : ℕ) (fields : Fields) : Type 0 where
   pub in-range : InRange kind fields
   pub is-frame : isFrame kind number ≡ true
-  pub decoded : decodeFrame (columns kind) kind number ≡ fieldsAnswer kind flag fields
-  pub answered : finishedAnswer columns kind number ≡ fieldsAnswer kind flag fields
+  pub decoded : decodeFrame (columns kind) kind number ≡ fieldsAnswer kind flag place fields
+  pub answered : finishedAnswer columns kind number ≡ fieldsAnswer kind flag place fields
 
 module _ (columns : Kind → List ℕ) (verdicts : VerdictLaws columns) where
-  shows : (kind : Kind) (number : ℕ) (fields : Fields) (idle : Clocked) → DecodesTo columns kind number 0 fields
-      → ShowsFrame kind (fieldsAnswer kind 0 fields) (idle .core .ids .id) (finishedBy columns kind number idle .outputs)
+  shows : (kind : Kind) (number : ℕ) (fields : Fields) (idle : Clocked) → DecodesTo columns kind number 0 0 fields
+      → ShowsFrame kind (fieldsAnswer kind 0 0 fields) (idle .core .ids .id) (finishedBy columns kind number idle .outputs)
   shows kind number fields idle d =
       subst (λ (a : Answer). ShowsFrame kind a (idle .core .ids .id) (finishedBy columns kind number idle .outputs)) (d .decoded)
       (verdicts .shows-frame kind number idle (d .is-frame))
 
   -- a frame with fields is not dropped
-  not-dropped : (kind : Kind) (number : ℕ) (fields : Fields) (idle : Clocked) → DecodesTo columns kind number 0 fields
+  not-dropped : (kind : Kind) (number : ℕ) (fields : Fields) (idle : Clocked) → DecodesTo columns kind number 0 0 fields
       → dropped (finishedBy columns kind number idle .outputs .verdict) ≡ false
   not-dropped kind number fields idle d =
       by-test (dropped (finishedBy columns kind number idle .outputs .verdict))
       (λ t. absurd (shows kind number fields idle d .dropped-exactly .0 t refl)) (λ f. f)
 
-  effect : (kind : Kind) (number : ℕ) (fields : Fields) (idle : Clocked) → DecodesTo columns kind number 0 fields
+  effect : (kind : Kind) (number : ℕ) (fields : Fields) (idle : Clocked) → DecodesTo columns kind number 0 0 fields
       → let done = finishedBy columns kind number idle in EffectOf kind fields (done .outputs .verdict) (idle .core) (done .core)
   effect Short number fields idle d =
       let s = shows Short number fields idle d in
@@ -99,7 +99,7 @@ module _ (columns : Kind → List ℕ) (verdicts : VerdictLaws columns) where
   abbrev doneResult : Kind → ℕ → Clocked → CallResult
   doneResult kind number idle = idleResult (finishedBy columns kind number idle)
 
-  others : (kind : Kind) (number : ℕ) (fields : Fields) (idle : Clocked) → DecodesTo columns kind number 0 fields
+  others : (kind : Kind) (number : ℕ) (fields : Fields) (idle : Clocked) → DecodesTo columns kind number 0 0 fields
       → OthersSame (rowMayChange (finishedBy columns kind number idle .outputs .verdict)) (idleResult idle) (doneResult kind number idle)
   others kind number fields idle d =
       let s = shows kind number fields idle d in
@@ -121,7 +121,7 @@ module _ (columns : Kind → List ℕ) (verdicts : VerdictLaws columns) where
       no-flag : {n : ℕ} → n ≡ 0 → n ≡ 1 → ⊥
       no-flag z o = omega arith
 
-  pub clean-last : (kind : Kind) (number : ℕ) (fields : Fields) (own : Ids) (idle : Clocked) → DecodesTo columns kind number 0 fields → idle .core .ids ≡ own
+  pub clean-last : (kind : Kind) (number : ℕ) (fields : Fields) (own : Ids) (idle : Clocked) → DecodesTo columns kind number 0 0 fields → idle .core .ids ≡ own
       → CleanLast kind fields own (idleResult idle) (doneResult kind number idle)
   unfolding dropped oneOf
   clean-last kind number fields own idle d i =
@@ -132,6 +132,7 @@ module _ (columns : Kind → List ℕ) (verdicts : VerdictLaws columns) where
         effect-of-row = effect kind number fields idle d;
         word-is = s .word-shown;
         flag-0 = s .flag-shown;
+        place-0 = s .place-shown;
         reset-is-fresh = λ v. ap (λ (c : Core). receiver c nothingHeld) (verdicts .reset-is-fresh kind number idle v ∙ ap freshCore i);
         status-1 = verdicts .errors-move kind number idle .status-set (verdicts .not-zero kind number idle)
             (λ e. true≢false (sym (ap dropped e) ∙ not-dropped kind number fields idle d));

@@ -3,7 +3,7 @@ use mathlib.Core.Path.{_≡_, refl, ap, _∙_}
 use mathlib.Core.List.{List, [], _++_}
 use Prim.Native.Nat.{ℕ, suc, _+_, _≤_}
 use native.Mathlib.Omega.{arith}
-use lib.Count.{ones}
+use lib.Count.{ones, trailingZeros}
 use lib.Dec.{lit≤}
 use lib.ListN.{length, length-append, replicate}
 use Rattle.laws.specs.Tests.{every}
@@ -29,11 +29,11 @@ use Rattle.registers.specs.Access.{readRefusal, readAnswer, writeRefusal, write
 use Rattle.guarantees.specs.Calls.{call, run, answers, refusalOf, carried, channelB}
 use Rattle.guarantees.specs.FrameLists.{lastCall}
 use Rattle.guarantees.specs.Existence.{carry}
-use Rattle.guarantees.specs.Examples.{idleClocks, TwentyCalls, FortyOnes, AfterBadStop}
+use Rattle.guarantees.specs.Examples.{idleClocks, TwentyCalls, MoreFlips, FortyOnes, AfterBadStop}
 use Rattle.guarantees.specs.BadStop.{First41st}
 
 pub twenty-calls : TwentyCalls
-unfolding ones lowestOne checkNumber syndrome firstFrom bySyndrome decodeWord isFrame judged every hasSetting idsOk settingsOk countersOk sequenceOk coreOk bitsOk wantedOk heldOk wellFormed upTo doubleUp clearedBy withoutSetting stored longRow tableRow countErrors finished finishedAnswer isWaiting frameOrPart betweenFrames takeBit heldAfter countClock continued started busStep idleClock stepAnswer clockAnswer oneOf inMap registerByte readOnly configWrong afterWrite readRefusal readAnswer writeRefusal writeAnswer call run answers refusalOf carried channelB bitsOf carry
+unfolding ones trailingZeros lowestOne checkNumber syndrome firstFrom bySyndrome decodeWord isFrame judged every hasSetting idsOk settingsOk countersOk sequenceOk coreOk bitsOk wantedOk heldOk wellFormed upTo doubleUp clearedBy withoutSetting stored longRow tableRow countErrors finished finishedAnswer isWaiting frameOrPart betweenFrames takeBit heldAfter countClock continued started busStep idleClock stepAnswer clockAnswer oneOf inMap registerByte readOnly configWrong afterWrite readRefusal readAnswer writeRefusal writeAnswer call run answers refusalOf carried channelB bitsOf carry
 twenty-calls =
     record {
       frame-is = refl;
@@ -41,8 +41,18 @@ twenty-calls =
       idle = record { answers-are = refl; leaves = refl };
       clean = record { answers-are = refl; leaves = refl };
       one-flip = record { answers-are = refl; leaves = refl };
+      check-flip = record { answers-are = refl; leaves = refl };
       two-flips = record { answers-are = refl; leaves = refl };
+    }
+
+pub more-flips : MoreFlips
+unfolding ones trailingZeros lowestOne checkNumber syndrome firstFrom bySyndrome decodeWord isFrame judged every hasSetting idsOk settingsOk countersOk sequenceOk coreOk bitsOk wantedOk heldOk wellFormed upTo doubleUp clearedBy withoutSetting stored longRow tableRow countErrors finished finishedAnswer isWaiting frameOrPart betweenFrames takeBit heldAfter countClock continued started busStep idleClock stepAnswer clockAnswer oneOf inMap registerByte readOnly configWrong afterWrite readRefusal readAnswer writeRefusal writeAnswer call run answers refusalOf carried channelB bitsOf carry
+more-flips =
+    record {
       three-flips = record { answers-are = refl; leaves = refl };
+      three-as-one = record { answers-are = refl; leaves = refl };
+      four-as-two = record { answers-are = refl; leaves = refl };
+      four-as-none = record { answers-are = refl; leaves = refl };
     }
 
 some : {n : ℕ} → suc n ≡ 0 → ⊥

@@ -16,6 +16,7 @@ use Rattle.frame.specs.declared.Kind.{Kind}
 use Rattle.frame.specs.declared.Kind.the-variants.{Long}
 use Rattle.frame.specs.declared.Fields.{Fields}
 use Rattle.frame.specs.Columns.{columnsOf}
+use Rattle.frame.specs.Place.{placeIn}
 use Rattle.frame.specs.Frames.{InRange}
 use Rattle.frame.proofs.Columns.{tables-good}
 use Rattle.receiver_state.specs.declared.Ids.{Ids}
@@ -149,7 +150,8 @@ flipped-others idle clean done o f =
 
 module _ (fields : Fields) (own : Ids) (range : InRange Long fields) (none : fine.InternalWithoutSetting fields (own .id)) where
   clean-10 : (idle done : CallResult) → CleanLast Long fields own idle done
-      → fine.GetsVerdict10 fields idle done × (done .answer .outputs .corrected ≡ 0) × (done .receiver .core .errors .single ≡ idle .receiver .core .errors .single)
+      → fine.GetsVerdict10 fields idle done × (done .answer .outputs .corrected ≡ 0) × (done .answer .outputs .place ≡ 0)
+      × (done .receiver .core .errors .single ≡ idle .receiver .core .errors .single)
   clean-10 idle done last =
       let ten = last .verdict-of-row .row-10 (none .ours) (λ one. zero-not-one (sym (none .internal) ∙ one)) (none .without-setting) in (
         record {
@@ -161,15 +163,17 @@ module _ (fields : Fields) (own : Ids) (range : InRange Long fields) (none : fin
           others-same = clean-others idle done ten (last .others-same);
         },
         last .flag-0,
+        last .place-0,
         last .others-same .single-same (λ three. ten-not ten three (λ e. omega arith)),
       )
     where
       zero-not-one : _≡_ {A = ℕ} 0 1 → ⊥
       zero-not-one e = omega arith
 
-  one-flip-10 : (idle clean done : CallResult) → CleanLast Long fields own idle clean → CorrectedLast clean done
-      → fine.GetsVerdict10 fields idle done × (done .answer .outputs .corrected ≡ 1) × OneHigher 65535 (idle .receiver .core .errors .single) (done .receiver .core .errors .single)
-  one-flip-10 idle clean done last flipped =
+  one-flip-10 : (place : ℕ) (idle clean done : CallResult) → CleanLast Long fields own idle clean → CorrectedLast place clean done
+      → fine.GetsVerdict10 fields idle done × (done .answer .outputs .corrected ≡ 1) × (done .answer .outputs .place ≡ place)
+      × OneHigher 65535 (idle .receiver .core .errors .single) (done .receiver .core .errors .single)
+  one-flip-10 place idle clean done last flipped =
       let c = clean-10 idle clean last in
       let ten = flipped .verdict-same ∙ c .0 .verdict-10 in (
         record {
@@ -181,7 +185,8 @@ module _ (fields : Fields) (own : Ids) (range : InRange Long fields) (none : fin
           others-same = flipped-others idle clean done (c .0 .others-same) (flipped .others-same);
         },
         flipped .flag-1,
-        subst (λ (single : ℕ). OneHigher 65535 single (done .receiver .core .errors .single)) (c .2)
+        flipped .place-is,
+        subst (λ (single : ℕ). OneHigher 65535 single (done .receiver .core .errors .single)) (c .3)
             (flipped .single-higher (λ three. ten-not (c .0 .verdict-10) three (λ e. omega arith))),
       )
 
@@ -199,17 +204,18 @@ fine-delay-theorem columns good =
       clean-10 = λ r before trigger bit fields range none s.
           clean-10 fields (r .core .ids) range none _ _ (d .clean r before trigger bit Long fields range s .by-name);
       one-flip-10 = λ r clean flipped trigger sent bit fields p range none protected s t same.
-          subst (λ (calls : List Call). OneFlip columns r calls flipped trigger bit fields) same
-          (one-flip-10 fields (r .core .ids) range none _ _ _ (d .clean r clean trigger sent Long fields range s .by-name)
+          subst (λ (calls : List Call). OneFlip columns r calls flipped trigger bit fields (placeIn Long p)) same
+          (one-flip-10 fields (r .core .ids) range none _ _ _ _ (d .clean r clean trigger sent Long fields range s .by-name)
           (d .one-flip r clean flipped trigger sent bit Long fields p range protected s t same .by-name));
     }
   where
     -- beside the idle list of these calls
-    OneFlip : (Kind → List ℕ) → Receiver → List Call → List Call → ℕ → ℕ → Fields → Type 0
-    OneFlip columns r idle-calls flipped trigger bit fields =
+    OneFlip : (Kind → List ℕ) → Receiver → List Call → List Call → ℕ → ℕ → Fields → ℕ → Type 0
+    OneFlip columns r idle-calls flipped trigger bit fields place =
         let idle = lastCall columns r idle-calls (clock trigger 1) in
         let done = lastCall columns r flipped (clock trigger bit) in
-        fine.GetsVerdict10 fields idle done × (done .answer .outputs .corrected ≡ 1) × OneHigher 65535 (idle .receiver .core .errors .single) (done .receiver .core .errors .single)
+        fine.GetsVerdict10 fields idle done × (done .answer .outputs .corrected ≡ 1) × (done .answer .outputs .place ≡ place)
+        × OneHigher 65535 (idle .receiver .core .errors .single) (done .receiver .core .errors .single)
 
 pub receiver-fine-delays : fine.ReceiverFineDelays
 receiver-fine-delays = fine-delay-theorem columnsOf tables-good

@@ -1,5 +1,6 @@
 -- What the last clock of a list that carries a frame leaves and answers, by name, from the equation on the whole. Assumes nothing.
 use mathlib.Core.Path.{_≡_, refl}
+use mathlib.Core.Logic.{_⊎_, inl, inr}
 use mathlib.Core.List.{List}
 use Prim.Native.Nat.{ℕ, _/_, _%_}
 use borrow.Author.Tests.{eq-eqb, ne-eqb}
@@ -23,10 +24,11 @@ use Rattle.verdicts.proofs.Counts.{one-higher}
 use Rattle.guarantees.specs.Calls.{CallResult, result}
 use Rattle.guarantees.specs.LastClock.{withFrame, withCorrection, withDoubleError, OthersSame, correctionMayChange, doubleErrorMayChange, CorrectedLast, UncorrectableLast}
 
-pub corrected-last : (clean : CallResult) → Waits (clean .receiver) → CorrectedLast clean (withCorrection clean)
-corrected-last clean w =
+pub corrected-last : (place : ℕ) (clean : CallResult) → Waits (clean .receiver) → CorrectedLast place clean (withCorrection place clean)
+corrected-last place clean w =
     record {
       flag-1 = refl;
+      place-is = refl;
       single-higher = λ n. rw (ne-eqb _ _ n) (one-higher 65535 (clean .receiver .core .errors .single));
       single-cleared = λ z. rw (eq-eqb _ _ z) refl;
       verdict-same = refl;
@@ -35,11 +37,11 @@ corrected-last clean w =
       waits = record { none-held = w .none-held; start-next = w .start-next };
     }
   where
-    others : OthersSame correctionMayChange clean (withCorrection clean)
+    others : OthersSame correctionMayChange clean (withCorrection place clean)
     others =
         record {
           refusal-same = refl;
-          outputs-stand = frame-stands _ _ _ (clean .answer .outputs);
+          outputs-stand = frame-stands _ _ _ _ (clean .answer .outputs);
           byte-same = refl;
           ids-same = refl;
           settings-same = λ n. refl;
@@ -51,13 +53,15 @@ corrected-last clean w =
           held-same = refl;
         }
 
-pub uncorrectable-last : (idle : CallResult) → Waits (idle .receiver) → idle .answer .outputs .corrected ≡ 0 → idle .answer .outputs .word ≡ 0
-    → UncorrectableLast idle (withDoubleError idle)
-uncorrectable-last idle w f z =
+pub uncorrectable-last : (verdict : ℕ) (idle : CallResult) → Waits (idle .receiver) → idle .answer .outputs .corrected ≡ 0 → idle .answer .outputs .place ≡ 0
+    → idle .answer .outputs .word ≡ 0 → UncorrectableLast verdict idle (withDoubleError verdict idle)
+uncorrectable-last verdict idle w f p z =
     record {
-      verdict-8 = refl;
+      verdict-is = refl;
       flag-same = refl;
       no-flag = f;
+      place-same = refl;
+      no-place = p;
       word-same = refl;
       no-word = z;
       double-higher = one-higher 255 (idle .receiver .core .errors .double);
@@ -66,11 +70,11 @@ uncorrectable-last idle w f z =
       waits = record { none-held = w .none-held; start-next = w .start-next };
     }
   where
-    others : OthersSame doubleErrorMayChange idle (withDoubleError idle)
+    others : OthersSame doubleErrorMayChange idle (withDoubleError verdict idle)
     others =
         record {
           refusal-same = refl;
-          outputs-stand = frame-stands _ _ _ (idle .answer .outputs);
+          outputs-stand = frame-stands _ _ _ _ (idle .answer .outputs);
           byte-same = refl;
           ids-same = refl;
           settings-same = λ n. refl;
@@ -84,18 +88,18 @@ uncorrectable-last idle w f z =
 
 -- ---- the table of verdicts on a corrected frame, and on one that can't be corrected
 
--- a corrected frame is the clean one, but for flag and single error counter
-pub corrected-frame : (kind : Kind) (fields : Fields) (idle : CallResult)
-    → withFrame kind (fieldsAnswer kind 1 fields) idle ≡ withCorrection (withFrame kind (fieldsAnswer kind 0 fields) idle)
+-- a corrected frame is the clean one, but for flag, place and single error counter
+pub corrected-frame : (kind : Kind) (place : ℕ) (fields : Fields) (idle : CallResult)
+    → withFrame kind (fieldsAnswer kind 1 place fields) idle ≡ withCorrection place (withFrame kind (fieldsAnswer kind 0 0 fields) idle)
 unfolding finished tableRow clearedBy countErrors
-corrected-frame Short fields idle =
+corrected-frame Short place fields idle =
     by-test (eqb (fields .«data» % 2) 1)
     (λ t. by-test (eqb (fields .«data» / 2 % 2) 1) (λ u. rw (t, u) refl) (λ u. rw (t, u) refl))
     (λ t. by-test (eqb (fields .«data» / 2 % 2) 1) (λ u. rw (t, u) refl) (λ u. rw (t, u) refl))
-corrected-frame Long fields idle = by-row (longRow fields (idle .receiver .core .ids .id)) refl
+corrected-frame Long place fields idle = by-row (longRow fields (idle .receiver .core .ids .id)) refl
   where
     by-row : (chosen : LongRow) → longRow fields (idle .receiver .core .ids .id) ≡ chosen
-        → withFrame Long (fieldsAnswer Long 1 fields) idle ≡ withCorrection (withFrame Long (fieldsAnswer Long 0 fields) idle)
+        → withFrame Long (fieldsAnswer Long 1 place fields) idle ≡ withCorrection place (withFrame Long (fieldsAnswer Long 0 0 fields) idle)
     by-row Foreign e = rw e refl
     by-row Outside e = rw e refl
     by-row WithoutSetting e = rw e refl
@@ -103,10 +107,11 @@ corrected-frame Long fields idle = by-row (longRow fields (idle .receiver .core 
     by-row Reset e = rw e refl
     by-row Other e = rw e refl
 
-pub uncorrectable-frame : (columns : Kind → List ℕ) (kind : Kind) (number : ℕ) (core : Core) (trigger : ℕ)
-    → finishedAnswer columns kind number ≡ bareAnswer 0 8 0
+pub uncorrectable-frame : (columns : Kind → List ℕ) (kind : Kind) (number verdict : ℕ) (core : Core) (trigger : ℕ)
+    → (verdict ≡ 8) ⊎ (verdict ≡ 11) → finishedAnswer columns kind number ≡ bareAnswer 0 verdict 0
     → let idle = idleClock core trigger in
     let done = finishedBy columns kind number idle in
-    result (receiver (done .core) nothingHeld) 0 (done .outputs) 0 ≡ withDoubleError (result (receiver (idle .core) nothingHeld) 0 (idle .outputs) 0)
+    result (receiver (done .core) nothingHeld) 0 (done .outputs) 0 ≡ withDoubleError verdict (result (receiver (idle .core) nothingHeld) 0 (idle .outputs) 0)
 unfolding finished tableRow countErrors doubleUp idleClock
-uncorrectable-frame columns kind number core trigger e = rw e refl
+uncorrectable-frame columns kind number verdict core trigger (inl v) e = rw (e, v) refl
+uncorrectable-frame columns kind number verdict core trigger (inr v) e = rw (e, v) refl

@@ -7,6 +7,7 @@ mod ChannelB
 mod EveryList
 mod Ending
 pub mod Demand3
+pub mod Flips
 pub mod BadStop
 pub mod FineDelays
 pub mod Existence

@@ -1,4 +1,4 @@
--- Document 01, "Demand 3, over lists of calls": the statement, over the columns of each kind of frame. Proved in proofs/Demand3.antt.
+-- Document 01, "Demand 3, over lists of calls", with document 02, Q-1, Q-4 and Q-8: the statement, over the columns of each kind of frame. Proved in proofs/Demand3.antt.
 -- "It is one claim about the whole list and not one for each call." What a single call gives is fixed by the definitions that `call` of Calls.antt
 -- cites, with `ClockLaws` of the crate `receiver`, `ReadLaws` and `WriteLaws` of `registers` and `ByteLaws` of `register_map`; of these, the record
 -- repeats only what a refused call leaves and answers, and that a read leaves the state.
@@ -14,6 +14,7 @@ use Rattle.frame.specs.declared.Kind.{Kind}
 use Rattle.frame.specs.declared.Fields.{Fields}
 use Rattle.frame.specs.Columns.{columnsOf, GoodTables}
 use Rattle.frame.specs.Encode.{encodeFields}
+use Rattle.frame.specs.Place.{placeIn}
 use Rattle.frame.specs.Frames.{InRange, flipProtected, ProtectedIn, fieldsAnswer}
 use Rattle.receiver_state.specs.declared.Receiver.{Receiver}
 use Rattle.receiver_state.specs.Shown.{noOutputs}
@@ -64,7 +65,7 @@ module _ (columns : Kind → List ℕ) where
   -- "no earlier clock finishes a frame, and the last gives it the fate that document 01's table gives its fields"
   pub record CleanFrame (r : Receiver) (before : List Call) (trigger bit : ℕ) (kind : Kind) (fields : Fields) : Type 0 where
     pub as-idle-before : AsIdleBefore columns r before
-    pub whole : lastCall columns r before (clock trigger bit) ≡ withFrame kind (fieldsAnswer kind 0 fields) (idleLast columns r before trigger)
+    pub whole : lastCall columns r before (clock trigger bit) ≡ withFrame kind (fieldsAnswer kind 0 0 fields) (idleLast columns r before trigger)
     pub by-name : CleanLast kind fields (r .core .ids) (idleLast columns r before trigger) (lastCall columns r before (clock trigger bit))
 
   abbrev pub Clean : Type 0
@@ -73,13 +74,13 @@ module _ (columns : Kind → List ℕ) where
       → Sends r before trigger bit kind (encoded kind fields)
       → CleanFrame r before trigger bit kind fields
 
-  -- the list `clean` with the bit `sent` on its last clock carries the clean frame, `flipped` with `bit` the frame with one flip
-  pub record OneFlipFrame (r : Receiver) (clean : List Call) (sent : ℕ) (flipped : List Call) (bit trigger : ℕ) : Type 0 where
+  -- the list `clean` with the bit `sent` on its last clock carries the clean frame, `flipped` with `bit` the frame with one flip, of the bit at `place`
+  pub record OneFlipFrame (r : Receiver) (clean : List Call) (sent : ℕ) (flipped : List Call) (bit trigger place : ℕ) : Type 0 where
     pub as-idle-before : AsIdleBefore columns r flipped
-    pub whole : lastCall columns r flipped (clock trigger bit) ≡ withCorrection (lastCall columns r clean (clock trigger sent))
-    pub by-name : CorrectedLast (lastCall columns r clean (clock trigger sent)) (lastCall columns r flipped (clock trigger bit))
+    pub whole : lastCall columns r flipped (clock trigger bit) ≡ withCorrection place (lastCall columns r clean (clock trigger sent))
+    pub by-name : CorrectedLast place (lastCall columns r clean (clock trigger sent)) (lastCall columns r flipped (clock trigger bit))
 
-  -- "With one protected bit flipped and all else the same": p is that bit
+  -- "With one protected bit flipped and all else the same": p is that bit. Q-8: the place is that of the bit.
   abbrev pub OneFlip : Type 0
   OneFlip =
       (r : Receiver) (clean flipped : List Call) (trigger sent bit : ℕ) (kind : Kind) (fields : Fields) (p : WrongBit)
@@ -87,20 +88,21 @@ module _ (columns : Kind → List ℕ) where
       → Sends r clean trigger sent kind (encoded kind fields)
       → Sends r flipped trigger bit kind (flipProtected kind p (encoded kind fields))
       → SameCalls clean flipped
-      → OneFlipFrame r clean sent flipped bit trigger
+      → OneFlipFrame r clean sent flipped bit trigger (placeIn kind p)
 
-  pub record TwoFlipsFrame (r : Receiver) (before : List Call) (trigger bit : ℕ) : Type 0 where
+  -- the list carries a frame that can't be corrected
+  pub record UncorrectableFrame (r : Receiver) (before : List Call) (trigger bit verdict : ℕ) : Type 0 where
     pub as-idle-before : AsIdleBefore columns r before
-    pub whole : lastCall columns r before (clock trigger bit) ≡ withDoubleError (idleLast columns r before trigger)
-    pub by-name : UncorrectableLast (idleLast columns r before trigger) (lastCall columns r before (clock trigger bit))
+    pub whole : lastCall columns r before (clock trigger bit) ≡ withDoubleError verdict (idleLast columns r before trigger)
+    pub by-name : UncorrectableLast verdict (idleLast columns r before trigger) (lastCall columns r before (clock trigger bit))
 
-  -- "With two flipped": p and q
+  -- "With two flipped": p and q. Q-8: "two flips always give 8"
   abbrev pub TwoFlips : Type 0
   TwoFlips =
       (r : Receiver) (before : List Call) (trigger bit : ℕ) (kind : Kind) (fields : Fields) (p q : WrongBit)
       → InRange kind fields → ProtectedIn kind p → ProtectedIn kind q → p ≢ q
       → Sends r before trigger bit kind (flipProtected kind q (flipProtected kind p (encoded kind fields)))
-      → TwoFlipsFrame r before trigger bit
+      → UncorrectableFrame r before trigger bit 8
 
   pub record Demand3 : Type 0 where
     pub refusals : Refusals

@@ -1,4 +1,4 @@
--- Document 01, "Demand 3, over lists of calls", and document 02, Q-1: lists of calls whose answers are computed, from the fresh state of
+-- Document 01, "Demand 3, over lists of calls", and document 02, Q-1 and Q-8: lists of calls whose answers are computed, from the fresh state of
 -- ID 5 and I2C ID 5. Proved in proofs/Examples.antt.
 use Prim.Native.Nat.{ℕ, zero, suc}
 use mathlib.Core.Path.{_≡_}
@@ -11,7 +11,7 @@ use Rattle.frame.specs.Numbers.{frameBits}
 use Rattle.frame.specs.Columns.{columnsOf}
 use Rattle.frame.specs.Bits.{bitsOf}
 use Rattle.frame.specs.Encode.{broadcast, encodeFields}
-use Rattle.frame.specs.Frames.{flipProtected}
+use Rattle.frame.specs.Frames.{flipProtected, flipEachProtected}
 use Rattle.receiver_state.specs.declared.Receiver.{Receiver}
 use Rattle.receiver_state.specs.State.{ids, holding, wantingOnes, receiver, freshCore, freshState}
 use Rattle.receiver_state.specs.WellFormed.{wellFormed}
@@ -41,33 +41,44 @@ sending number = carry (bitsOf (frameBits Short) number) pattern
 abbrev pub frame : ℕ
 frame = encodeFields (columnsOf Short) Short (broadcast 1)
 
+-- the broadcast of byte 0: 0001
+abbrev pub zeroFrame : ℕ
+zeroFrame = encodeFields (columnsOf Short) Short (broadcast 0)
+
 -- single errors, double errors, status bit 5, bunch count, event count, control, how many frame bits are held
 abbrev pub stateNumbers : Receiver → List ℕ
 stateNumbers r =
     r .core .errors .single ∷ r .core .errors .double ∷ r .core .errors .status5
     ∷ r .core .counters .bunch ∷ r .core .counters .event ∷ r .core .settings .control ∷ r .held .count ∷ []
 
--- refusal, byte, trigger output, missed flag, strobe, number on the bus, verdict, corrected flag, word
+-- refusal, byte, trigger output, missed flag, strobe, number on the bus, verdict, corrected flag, place, word
 abbrev pub answerNumbers : CallAnswer → List ℕ
 answerNumbers a =
     a .refusal ∷ a .byte ∷ a .outputs .trigger ∷ a .outputs .missed ∷ a .outputs .strobe ∷ a .outputs .number
-    ∷ a .outputs .verdict ∷ a .outputs .corrected ∷ a .outputs .word ∷ []
+    ∷ a .outputs .verdict ∷ a .outputs .corrected ∷ a .outputs .place ∷ a .outputs .word ∷ []
 
 abbrev nothing : List ℕ
-nothing = 0 ∷ 0 ∷ 0 ∷ 0 ∷ 0 ∷ 0 ∷ 0 ∷ 0 ∷ 0 ∷ []
+nothing = 0 ∷ 0 ∷ 0 ∷ 0 ∷ 0 ∷ 0 ∷ 0 ∷ 0 ∷ 0 ∷ 0 ∷ []
+
+-- what the last call answers if a broadcast is executed: flag, place and word; and if a frame is dropped: the verdict
+abbrev broadcastLast : ℕ → ℕ → ℕ → List ℕ
+broadcastLast flag place word = 0 ∷ 0 ∷ 0 ∷ 0 ∷ 0 ∷ 0 ∷ 1 ∷ flag ∷ place ∷ word ∷ []
+
+abbrev droppedLast : ℕ → List ℕ
+droppedLast verdict = 0 ∷ 0 ∷ 0 ∷ 0 ∷ 0 ∷ 0 ∷ verdict ∷ 0 ∷ 0 ∷ 0 ∷ []
 
 -- what the calls before the last answer: bunch 0, event low 0 and event high 0 from the first trigger on (mode 3); with control 1 (mode 1) bunch 3 on
 -- the second
 abbrev pub answersBefore : List (List ℕ)
 answersBefore =
-    (0 ∷ 0 ∷ 1 ∷ 0 ∷ 1 ∷ 0 ∷ 0 ∷ 0 ∷ 0 ∷ [])
-    ∷ (1 ∷ 0 ∷ 0 ∷ 0 ∷ 0 ∷ 0 ∷ 0 ∷ 0 ∷ 0 ∷ [])
-    ∷ (0 ∷ 0 ∷ 0 ∷ 0 ∷ 2 ∷ 0 ∷ 0 ∷ 0 ∷ 0 ∷ [])
-    ∷ (0 ∷ 1 ∷ 0 ∷ 0 ∷ 0 ∷ 0 ∷ 0 ∷ 0 ∷ 0 ∷ [])
-    ∷ (0 ∷ 0 ∷ 0 ∷ 0 ∷ 3 ∷ 0 ∷ 0 ∷ 0 ∷ 0 ∷ [])
+    (0 ∷ 0 ∷ 1 ∷ 0 ∷ 1 ∷ 0 ∷ 0 ∷ 0 ∷ 0 ∷ 0 ∷ [])
+    ∷ (1 ∷ 0 ∷ 0 ∷ 0 ∷ 0 ∷ 0 ∷ 0 ∷ 0 ∷ 0 ∷ 0 ∷ [])
+    ∷ (0 ∷ 0 ∷ 0 ∷ 0 ∷ 2 ∷ 0 ∷ 0 ∷ 0 ∷ 0 ∷ 0 ∷ [])
+    ∷ (0 ∷ 1 ∷ 0 ∷ 0 ∷ 0 ∷ 0 ∷ 0 ∷ 0 ∷ 0 ∷ 0 ∷ [])
+    ∷ (0 ∷ 0 ∷ 0 ∷ 0 ∷ 3 ∷ 0 ∷ 0 ∷ 0 ∷ 0 ∷ 0 ∷ [])
     ∷ nothing
-    ∷ (0 ∷ 0 ∷ 1 ∷ 0 ∷ 1 ∷ 3 ∷ 0 ∷ 0 ∷ 0 ∷ [])
-    ∷ (5 ∷ 0 ∷ 0 ∷ 0 ∷ 0 ∷ 0 ∷ 0 ∷ 0 ∷ 0 ∷ [])
+    ∷ (0 ∷ 0 ∷ 1 ∷ 0 ∷ 1 ∷ 3 ∷ 0 ∷ 0 ∷ 0 ∷ 0 ∷ [])
+    ∷ (5 ∷ 0 ∷ 0 ∷ 0 ∷ 0 ∷ 0 ∷ 0 ∷ 0 ∷ 0 ∷ 0 ∷ [])
     ∷ nothing ∷ nothing ∷ nothing ∷ nothing ∷ nothing ∷ nothing ∷ nothing ∷ nothing ∷ nothing ∷ nothing ∷ nothing ∷ []
 
 -- what the twenty calls answer, and what they leave in those seven numbers of the state
@@ -81,17 +92,27 @@ pub record TwentyCalls : Type 0 where
   -- idle: 16 clocks, two triggers
   pub idle : Gives pattern nothing (0 ∷ 0 ∷ 1 ∷ 16 ∷ 2 ∷ 1 ∷ 0 ∷ [])
   -- clean: verdict 1, word 1, and the bunch counter cleared
-  pub clean : Gives (sending frame) (0 ∷ 0 ∷ 0 ∷ 0 ∷ 0 ∷ 0 ∷ 1 ∷ 0 ∷ 1 ∷ []) (0 ∷ 0 ∷ 1 ∷ 0 ∷ 2 ∷ 1 ∷ 0 ∷ [])
-  -- one flip: the same with flag 1 and one single error
-  pub one-flip : Gives (sending (flipProtected Short (Data 7) frame)) (0 ∷ 0 ∷ 0 ∷ 0 ∷ 0 ∷ 0 ∷ 1 ∷ 1 ∷ 1 ∷ []) (1 ∷ 0 ∷ 1 ∷ 0 ∷ 2 ∷ 1 ∷ 0 ∷ [])
+  pub clean : Gives (sending frame) (broadcastLast 0 0 1) (0 ∷ 0 ∷ 1 ∷ 0 ∷ 2 ∷ 1 ∷ 0 ∷ [])
+  -- one flip, of the first data bit: the same with flag 1, place 1 and one single error
+  pub one-flip : Gives (sending (flipProtected Short (Data 7) frame)) (broadcastLast 1 1 1) (1 ∷ 0 ∷ 1 ∷ 0 ∷ 2 ∷ 1 ∷ 0 ∷ [])
+  -- and of the last check bit: place 13
+  pub check-flip : Gives (sending (flipProtected Short (Check 0) frame)) (broadcastLast 1 13 1) (1 ∷ 0 ∷ 1 ∷ 0 ∷ 2 ∷ 1 ∷ 0 ∷ [])
   -- two flips: verdict 8, and the idle list's numbers with one double error
-  pub two-flips : Gives (sending (flipProtected Short (Check 0) (flipProtected Short (Data 7) frame)))
-      (0 ∷ 0 ∷ 0 ∷ 0 ∷ 0 ∷ 0 ∷ 8 ∷ 0 ∷ 0 ∷ []) (0 ∷ 1 ∷ 1 ∷ 16 ∷ 2 ∷ 1 ∷ 0 ∷ [])
-  -- three flips, of which demand 3 claims nothing: the broadcast of byte 0, sent with data bits 0, 1 and 2 flipped, is taken for that of byte 7 with a wrong
-  -- check bit, is executed, and clears the bunch and the event counter
-  pub three-flips : Gives
-      (sending (flipProtected Short (Data 2) (flipProtected Short (Data 1) (flipProtected Short (Data 0) (encodeFields (columnsOf Short) Short (broadcast 0))))))
-      (0 ∷ 0 ∷ 0 ∷ 0 ∷ 0 ∷ 0 ∷ 1 ∷ 1 ∷ 7 ∷ []) (1 ∷ 0 ∷ 1 ∷ 0 ∷ 0 ∷ 1 ∷ 0 ∷ [])
+  pub two-flips : Gives (sending (flipEachProtected Short (Check 0 ∷ Data 7 ∷ []) frame)) (droppedLast 8) (0 ∷ 1 ∷ 1 ∷ 16 ∷ 2 ∷ 1 ∷ 0 ∷ [])
+
+-- ---- more flips
+
+-- more than two flips, of which demand 3 claims nothing: what 8 and 11 show of them, and what they do not
+pub record MoreFlips : Type 0 where
+  -- three, of data bits 0, 1 and 6: the syndrome is 26, which belongs to no bit; verdict 11
+  pub three-flips : Gives (sending (flipEachProtected Short (Data 0 ∷ Data 1 ∷ Data 6 ∷ []) frame)) (droppedLast 11) (0 ∷ 1 ∷ 1 ∷ 16 ∷ 2 ∷ 1 ∷ 0 ∷ [])
+  -- three others look like one: the broadcast of byte 0, sent with data bits 0, 1 and 2 flipped, is taken for that of byte 7 with a wrong check bit, is
+  -- executed, and clears the bunch and the event counter. The place is that of a check bit, and no bit there was flipped.
+  pub three-as-one : Gives (sending (flipEachProtected Short (Data 2 ∷ Data 1 ∷ Data 0 ∷ []) zeroFrame)) (broadcastLast 1 13 7) (1 ∷ 0 ∷ 1 ∷ 0 ∷ 0 ∷ 1 ∷ 0 ∷ [])
+  -- four look like two: verdict 8
+  pub four-as-two : Gives (sending (flipEachProtected Short (Check 0 ∷ Data 7 ∷ Data 6 ∷ Data 5 ∷ []) frame)) (droppedLast 8) (0 ∷ 1 ∷ 1 ∷ 16 ∷ 2 ∷ 1 ∷ 0 ∷ [])
+  -- four others look like none: the broadcast of byte 0 becomes that of byte 7
+  pub four-as-none : Gives (sending (flipEachProtected Short (Check 0 ∷ Data 2 ∷ Data 1 ∷ Data 0 ∷ []) zeroFrame)) (broadcastLast 0 0 7) (0 ∷ 0 ∷ 1 ∷ 0 ∷ 0 ∷ 1 ∷ 0 ∷ [])
 
 -- ---- 40 ones are not enough
 

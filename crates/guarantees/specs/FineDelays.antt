@@ -12,6 +12,7 @@ use Rattle.frame.specs.declared.Kind.the-variants.{Long}
 use Rattle.frame.specs.declared.Fields.{Fields}
 use Rattle.frame.specs.Columns.{columnsOf, GoodTables}
 use Rattle.frame.specs.Encode.{wordOf, encodeFields}
+use Rattle.frame.specs.Place.{placeIn}
 use Rattle.frame.specs.Frames.{InRange, flipProtected, ProtectedIn}
 use Rattle.receiver_state.specs.declared.Receiver.{Receiver}
 use Rattle.receiver_state.specs.State.{freshAnswer}
@@ -81,7 +82,7 @@ module _ (columns : Kind → List ℕ) where
       (id i2c : ℕ) (calls : List Call) (number : ℕ) → freshAnswer id i2c .refusal ≡ 0 → DelayRegister number
       → HoldsSetting (run columns (freshAnswer id i2c .receiver) calls) number
 
-  -- a clean frame: flag 0, and the single error counter stays
+  -- a clean frame: flag and place 0, and the single error counter stays
   abbrev pub CleanVerdict10 : Type 0
   CleanVerdict10 =
       (r : Receiver) (before : List Call) (trigger bit : ℕ) (fields : Fields) → InRange Long fields → InternalWithoutSetting fields (r .core .ids .id)
@@ -89,9 +90,10 @@ module _ (columns : Kind → List ℕ) where
       → let done = lastCall columns r before (clock trigger bit) in
       GetsVerdict10 fields (idleLast columns r before trigger) done
       × (done .answer .outputs .corrected ≡ 0)
+      × (done .answer .outputs .place ≡ 0)
       × (done .receiver .core .errors .single ≡ idleLast columns r before trigger .receiver .core .errors .single)
 
-  -- one protected bit flipped: flag 1, and "corrected flag and single counter as for verdict 2". The corrected data decide: p may be one of their bits.
+  -- one protected bit flipped: flag 1, the place of that bit, and "corrected flag and single counter as for verdict 2". The corrected data decide: p may be one of their bits.
   abbrev pub OneFlipVerdict10 : Type 0
   OneFlipVerdict10 =
       (r : Receiver) (clean flipped : List Call) (trigger sent bit : ℕ) (fields : Fields) (p : WrongBit)
@@ -102,6 +104,7 @@ module _ (columns : Kind → List ℕ) where
       → let done = lastCall columns r flipped (clock trigger bit) in
       GetsVerdict10 fields (idleLast columns r flipped trigger) done
       × (done .answer .outputs .corrected ≡ 1)
+      × (done .answer .outputs .place ≡ placeIn Long p)
       × OneHigher 65535 (idleLast columns r flipped trigger .receiver .core .errors .single) (done .receiver .core .errors .single)
 
   pub record FineDelayLaws : Type 0 where

@@ -1,4 +1,4 @@
--- Document 01, "Demand 3, over lists of calls": what the last clock of a list that carries a frame leaves and answers, as a whole and by name.
+-- Document 01, "Demand 3, over lists of calls", with document 02, Q-8: what the last clock of a list that carries a frame leaves and answers, as a whole and by name.
 -- A result or a core named `idle` is what the last clock of the idle list leaves and answers, or leaves.
 -- Words in quotation marks that document 01 does not have are the customer's demand 3.
 use Prim.Native.Nat.{ℕ, _/_, _%_, _<_}
@@ -34,28 +34,29 @@ abbrev pub withFrame : Kind → Answer → CallResult → CallResult
 withFrame kind decoded idle =
     withClocked (finished kind decoded (record { core = idle .receiver .core; outputs = idle .answer .outputs })) idle
 
--- "apart from the corrected flag and the single error counter (one higher unless full, or cleared by RESET)": verdict 3 is RESET
-abbrev pub withCorrection : CallResult → CallResult
-withCorrection clean =
+-- "apart from the corrected flag and the single error counter (one higher unless full, or cleared by RESET)": verdict 3 is RESET.
+-- Q-8: "In demand 3 the place is excepted like the corrected flag"
+abbrev pub withCorrection : ℕ → CallResult → CallResult
+withCorrection place clean =
     let core = clean .receiver .core in
     let shown = clean .answer .outputs in
     withClocked
     (record {
       core = withErrors (errors (cond (eqb (shown .verdict) 3) 0 (upTo 65535 (core .errors .single))) (core .errors .double) (core .errors .status5)) core;
-      outputs = showingFrame (shown .verdict) 1 (shown .word) shown;
+      outputs = showingFrame (shown .verdict) 1 place (shown .word) shown;
     })
     clean
 
 -- "verdict 8, and the state is the one that the same calls leave with channel B idle, but with the double error counter one higher unless full and
--- status bit 5 at 1"
-abbrev pub withDoubleError : CallResult → CallResult
-withDoubleError idle =
+-- status bit 5 at 1"; verdict 11 of Q-8 likewise
+abbrev pub withDoubleError : ℕ → CallResult → CallResult
+withDoubleError verdict idle =
     let core = idle .receiver .core in
     let shown = idle .answer .outputs in
     withClocked
     (record {
       core = withErrors (errors (core .errors .single) (upTo 255 (core .errors .double)) 1) core;
-      outputs = showingFrame 8 (shown .corrected) (shown .word) shown;
+      outputs = showingFrame verdict (shown .corrected) (shown .place) (shown .word) shown;
     })
     idle
 
@@ -93,7 +94,7 @@ pub record MayChange : Type 1 where
   pub counters : Type 0
   pub sequence : Type 0
 
--- of two results, all parts but verdict, corrected flag and word are the same, save those that may change
+-- of two results, all parts but verdict, corrected flag, place and word are the same, save those that may change
 pub record OthersSame (may : MayChange) (one other : CallResult) : Type 0 where
   pub refusal-same : other .answer .refusal ≡ one .answer .refusal
   pub outputs-stand : Stands (other .answer .outputs) (one .answer .outputs)
@@ -138,6 +139,7 @@ pub record CleanLast (kind : Kind) (fields : Fields) (own : Ids) (idle done : Ca
   pub effect-of-row : EffectOf kind fields (done .answer .outputs .verdict) (idle .receiver .core) (done .receiver .core)
   pub word-is : done .answer .outputs .word ≡ wordOf kind fields
   pub flag-0 : done .answer .outputs .corrected ≡ 0
+  pub place-0 : done .answer .outputs .place ≡ 0
   pub reset-is-fresh : done .answer .outputs .verdict ≡ 3 → done .receiver ≡ freshState own
   pub status-1 : done .receiver .core .errors .status5 ≡ 1
   pub waits : Waits (done .receiver)
@@ -145,9 +147,10 @@ pub record CleanLast (kind : Kind) (fields : Fields) (own : Ids) (idle done : Ca
   pub others-same : OthersSame (rowMayChange (done .answer .outputs .verdict)) idle done
 
 -- one protected bit flipped: "state and outputs after that clock are those of the clean frame, apart from the corrected flag and the single error
--- counter (one higher unless full, or cleared by RESET)"
-pub record CorrectedLast (clean done : CallResult) : Type 0 where
+-- counter (one higher unless full, or cleared by RESET)"; and apart from the place, which is then that bit's
+pub record CorrectedLast (place : ℕ) (clean done : CallResult) : Type 0 where
   pub flag-1 : done .answer .outputs .corrected ≡ 1
+  pub place-is : done .answer .outputs .place ≡ place
   pub single-higher : clean .answer .outputs .verdict ≢ 3 → OneHigher 65535 (clean .receiver .core .errors .single) (done .receiver .core .errors .single)
   pub single-cleared : clean .answer .outputs .verdict ≡ 3 → done .receiver .core .errors .single ≡ 0
   pub verdict-same : done .answer .outputs .verdict ≡ clean .answer .outputs .verdict
@@ -155,11 +158,13 @@ pub record CorrectedLast (clean done : CallResult) : Type 0 where
   pub others-same : OthersSame correctionMayChange clean done
   pub waits : Waits (done .receiver)
 
--- two flipped: "With two flips all outputs but the verdict are the idle list's."
-pub record UncorrectableLast (idle done : CallResult) : Type 0 where
-  pub verdict-8 : done .answer .outputs .verdict ≡ 8
+-- two flipped, with verdict 8: "With two flips all outputs but the verdict are the idle list's."
+pub record UncorrectableLast (verdict : ℕ) (idle done : CallResult) : Type 0 where
+  pub verdict-is : done .answer .outputs .verdict ≡ verdict
   pub flag-same : done .answer .outputs .corrected ≡ idle .answer .outputs .corrected
   pub no-flag : done .answer .outputs .corrected ≡ 0
+  pub place-same : done .answer .outputs .place ≡ idle .answer .outputs .place
+  pub no-place : done .answer .outputs .place ≡ 0
   pub word-same : done .answer .outputs .word ≡ idle .answer .outputs .word
   pub no-word : done .answer .outputs .word ≡ 0
   pub double-higher : OneHigher 255 (idle .receiver .core .errors .double) (done .receiver .core .errors .double)

@@ -2,6 +2,7 @@ pub mod Calls
 pub mod FrameLists
 pub mod LastClock
 pub mod Demand3
+pub mod Flips
 pub mod BadStop
 pub mod FineDelays
 pub mod Existence

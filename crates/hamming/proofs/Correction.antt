@@ -3,7 +3,7 @@
 -- Assumes nothing.
 use mathlib.Core.Path.{_≡_, refl, sym, ap, _∙_, subst}
 use mathlib.Core.Bool.{Bool}
-use mathlib.Core.List.{List}
+use mathlib.Core.List.{List, [], _∷_}
 use Prim.Native.Nat.{ℕ, _%_, _^_, _<_}
 use native.Mathlib.Nat.{zero-add}
 use native.Mathlib.Omega.{arith}
@@ -22,7 +22,7 @@ use Rattle.hamming.specs.declared.WrongBit.the-variants.{None, Check, Da
 use Rattle.hamming.specs.declared.Decoded.{Decoded}
 use Rattle.hamming.specs.declared.Decoded.the-variants.{Word, Uncorrectable}
 use Rattle.hamming.specs.Code.{checkNumber, syndrome, firstEqual, byColumn, bySyndrome, decodeWord}
-use Rattle.hamming.specs.Correction.{Coded, encoded, decoded, flip, Protected, NoneOrProtected, flagOf, GoodColumns, NoneWithin, OneFlip, TwoFlips, AnswerWithin, UncorrectableExactly, DataFits, CorrectionTheorem}
+use Rattle.hamming.specs.Correction.{Coded, encoded, syndromeOf, decoded, flip, Protected, NoneOrProtected, flipEach, EachProtected, flagOf, GoodColumns, NoneWithin, OneFlip, TwoFlips, FlipsParity, AnswerWithin, UncorrectableExactly, DataFits, CorrectionTheorem}
 use Rattle.hamming.proofs.Linear.{check-xor, check-bit, check-fits}
 use Rattle.hamming.proofs.Search.{Searched, at, none, searched}
 
@@ -32,9 +32,6 @@ abbrev mark : List ℕ → WrongBit → ℕ
 mark columns None = 0
 mark columns (Check j) = 2 ^ j
 mark columns (Data i) = getD columns i 0
-
-abbrev syndromeOf : List ℕ → Coded → ℕ
-syndromeOf columns word = syndrome columns (word .bits) (word .check)
 
 syndrome-flip : (columns : List ℕ) (p : WrongBit) (word : Coded) → syndromeOf columns (flip p word) ≡ bitXor (syndromeOf columns word) (mark columns p)
 unfolding syndrome
@@ -195,6 +192,14 @@ module _ (w : ℕ) (columns : List ℕ) (g : GoodColumns w columns) where
       go r (names x n e) = absurd (no-mark x n (e ∙ syndrome-two columns d p q))
       go r (names-none nowhere) = refl
 
+  -- each flip adds a mark with an odd number of ones
+  flips-parity : FlipsParity w columns
+  flips-parity d [] h = ap (λ (s : ℕ). ones s % 2) (syndrome-encoded columns d) ∙ ap (λ (n : ℕ). n % 2) ones-zero
+  flips-parity d (p ∷ ps) h =
+      let before = flipEach ps (encoded columns d) in
+      let flipped = ap (λ (s : ℕ). ones s % 2) (syndrome-flip columns p before) in
+      omega (arith, flipped, ones-xor (syndromeOf columns before) (mark columns p), mark-odd p (h .0), flips-parity d ps (h .1))
+
   -- a named bit of a word whose check number fits
   fits : (word : Coded) → word .check < 2 ^ w → (p : WrongBit) → Named (length columns) p → mark columns p ≡ syndromeOf columns word
       → NoneOrProtected (length columns) w p
@@ -236,6 +241,7 @@ correction w columns g = record {
   clean = λ d. at-most-one w columns g d None tt;
   one-flip = one-flip w columns g;
   two-flips = two-flips w columns g;
+  flips-parity = flips-parity w columns g;
   answer-within = answer-within w columns g;
   uncorrectable-exactly = uncorrectable-exactly w columns g;
   check-fits = check-fits w columns (g .fit);

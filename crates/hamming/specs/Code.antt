@@ -41,7 +41,7 @@ abbrev pub byColumn : ℕ → Found → Decoded
 byColumn d (At i) = Word (bitXor d (2 ^ i)) true (Data i)
 byColumn d Nothing = Uncorrectable
 
--- what the syndrome s says of the received data d.
+-- the decoder of a word: what the syndrome s says of the received data d.
 -- "Syndrome 0: clean. A syndrome with one bit set: that check bit was wrong, the data stand. Equal to a column in use: ..."
 unfoldable pub bySyndrome : List ℕ → ℕ → ℕ → Decoded
 bySyndrome columns d s =
@@ -49,6 +49,6 @@ bySyndrome columns d s =
     (cond (eqb (ones s) 1) (Word d true (Check (lowestOne s)))
     (byColumn d (firstEqual columns s)))
 
--- the decoder of a word: its data and its check number as received
+-- the same of data and check number as received
 unfoldable pub decodeWord : List ℕ → ℕ → ℕ → Decoded
 decodeWord columns d check = bySyndrome columns d (syndrome columns d check)

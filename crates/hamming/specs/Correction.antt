@@ -4,7 +4,7 @@ use Prim.Native.Nat.{ℕ, _%_, _^_, _≤_, _<_}
 use mathlib.Core.Path.{_≡_}
 use mathlib.Core.Bool.{Bool, true, false}
 use mathlib.Core.Logic.{_≢_, _↔_}
-use mathlib.Core.List.{List}
+use mathlib.Core.List.{List, [], _∷_}
 use lib.Bits.{bitXor}
 use lib.Count.{ones}
 use lib.ListN.{length, getD}
@@ -12,7 +12,7 @@ use Rattle.hamming.specs.declared.WrongBit.{WrongBit}
 use Rattle.hamming.specs.declared.WrongBit.the-variants.{None, Check, Data}
 use Rattle.hamming.specs.declared.Decoded.{Decoded}
 use Rattle.hamming.specs.declared.Decoded.the-variants.{Word, Uncorrectable}
-use Rattle.hamming.specs.Code.{checkNumber, decodeWord}
+use Rattle.hamming.specs.Code.{checkNumber, syndrome, decodeWord}
 
 -- a word as it is sent or received: its data bits and its check number
 pub record Coded : Type 0 where
@@ -22,6 +22,9 @@ pub record Coded : Type 0 where
 -- the data d as they are sent
 abbrev pub encoded : List ℕ → ℕ → Coded
 encoded columns d = record { bits = d; check = checkNumber columns d }
+
+abbrev pub syndromeOf : List ℕ → Coded → ℕ
+syndromeOf columns word = syndrome columns (word .bits) (word .check)
 
 -- what the decoder answers of a received word
 abbrev pub decoded : List ℕ → Coded → Decoded
@@ -43,6 +46,15 @@ abbrev pub NoneOrProtected : ℕ → ℕ → WrongBit → Type 0
 NoneOrProtected n w None = Unit {0}
 NoneOrProtected n w (Check j) = Protected n w (Check j)
 NoneOrProtected n w (Data i) = Protected n w (Data i)
+
+-- these bits flipped, one after the other; a bit that stands there twice is flipped back
+abbrev pub flipEach : List WrongBit → Coded → Coded
+flipEach [] word = word
+flipEach (p ∷ ps) word = flip p (flipEach ps word)
+
+abbrev pub EachProtected : ℕ → ℕ → List WrongBit → Type 0
+EachProtected n w [] = Unit {0}
+EachProtected n w (p ∷ ps) = Protected n w p × EachProtected n w ps
 
 -- the corrected flag
 abbrev pub flagOf : WrongBit → Bool
@@ -82,6 +94,12 @@ TwoFlips w columns =
     (d : ℕ) (p q : WrongBit) → Protected (length columns) w p → Protected (length columns) w q → p ≢ q
     → decoded columns (flip q (flip p (encoded columns d))) ≡ Uncorrectable
 
+-- any number of protected bits flipped: the number of ones in the syndrome is odd exactly if that number is
+abbrev pub FlipsParity : ℕ → List ℕ → Type 0
+FlipsParity w columns =
+    (d : ℕ) (flips : List WrongBit) → EachProtected (length columns) w flips
+    → ones (syndromeOf columns (flipEach flips (encoded columns d))) % 2 ≡ length flips % 2
+
 -- conversely, of a received word whose check number is below 2 ^ w: data d and bit p are answered only if the word is the encoding of d with
 -- exactly that bit flipped, none if clean; and the flag says whether there is one
 abbrev pub AnswerWithin : ℕ → List ℕ → Type 0
@@ -107,6 +125,7 @@ pub record Corrects (w : ℕ) (columns : List ℕ) : Type 0 where
   pub clean : Clean columns
   pub one-flip : OneFlip w columns
   pub two-flips : TwoFlips w columns
+  pub flips-parity : FlipsParity w columns
   pub answer-within : AnswerWithin w columns
   pub uncorrectable-exactly : UncorrectableExactly w columns
   pub check-fits : CheckFits w columns

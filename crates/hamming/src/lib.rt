@@ -9,7 +9,7 @@ ghost use lib.Dec.{eqb};
 ghost use lib.Bits.{bitXor};
 ghost use Rattle.hamming.specs.Columns.{columnTable};
 ghost use Rattle.hamming.specs.Code as code;
-ghost use Rattle.hamming.specs.Code.{inUse, checkNumber, firstEqual, bySyndrome, decodeWord};
+ghost use Rattle.hamming.specs.Code.{inUse, checkNumber, firstEqual, bySyndrome};
 
 // What the search for a column yields: the bit whose column it is, or none.
 pub enum Found {
@@ -147,7 +147,7 @@ fn flip_bit(data: u32, at: usize) -> u32
     data ^ (1u32 << at)
 }
 
-// What the syndrome says of the received data, in document 01's order.
+// The decoder of a word: what the syndrome says of the received data, in document 01's order.
 pub fn by_syndrome(columns: &[u8], data: u32, syndrome: u8) -> Decoded
     ensures { λ r. ⌜ r ≡ bySyndrome (inUse (now (columns .entry))) «data» syndrome ⌝ }
 {
@@ -174,11 +174,4 @@ pub fn by_syndrome(columns: &[u8], data: u32, syndrome: u8) -> Decoded
         corrected: true,
         wrong: WrongBit::Data(at),
     }
-}
-
-// The data of a received word, corrected where its check number allows it.
-pub fn decode_word(columns: &[u8], data: u32, check: u8) -> Decoded
-    ensures { λ r. ⌜ r ≡ decodeWord (inUse (now (columns .entry))) «data» check ⌝ }
-{
-    by_syndrome(columns, data, syndrome(columns, data, check))
 }

@@ -62,6 +62,7 @@ pub record SequenceLeft (core : Core) (trigger : ℕ) (after : Sequence) : Type 
 pub record OnlyCounts (core : Core) (shown : Outputs) (after : Core) : Type 0 where
   pub no-verdict : shown .verdict ≡ 0
   pub no-flag : shown .corrected ≡ 0
+  pub no-place : shown .place ≡ 0
   pub no-word : shown .word ≡ 0
   pub ids-stay : after .ids ≡ core .ids
   pub settings-stay : after .settings ≡ core .settings

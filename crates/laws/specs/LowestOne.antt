@@ -1,4 +1,4 @@
--- The place of a number's lowest bit that is 1.
+-- Which bit of a number is the lowest that is 1.
 use Prim.Native.Nat.{ℕ}
 use lib.Count.{trailingZeros}
 

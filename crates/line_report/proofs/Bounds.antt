@@ -10,9 +10,10 @@ use Rattle.laws.proofs.Rules.{picked, picked-by}
 use Rattle.frame.specs.declared.Kind.{Kind}
 use Rattle.frame.specs.declared.Kind.the-variants.{Short, Long}
 use Rattle.frame.specs.declared.Judged.{Judged}
-use Rattle.frame.specs.declared.Judged.the-variants.{StopZero, Uncorrectable, FixedZero, Good}
+use Rattle.frame.specs.declared.Judged.the-variants.{StopZero, EvenSyndrome, OddSyndrome, FixedZero, Good}
 use Rattle.frame.specs.Numbers.{frameBits, isFrame}
 use Rattle.frame.specs.Bits.{bitsOf}
+use Rattle.frame.specs.Place.{largestPlace}
 use Rattle.frame.specs.Decode.{judged, answerTo, finishedAnswer}
 use Rattle.receiver_state.specs.declared.Receiver.{Receiver}
 use Rattle.receiver_state.specs.declared.Core.{Core}
@@ -22,6 +23,7 @@ use Rattle.receiver_state.specs.Shown.{noOutputs}
 use Rattle.verdicts.specs.Table.{largestVerdict}
 use Rattle.verdicts.specs.Finished.{finished}
 use Rattle.verdicts.proofs.Laws.{not-larger}
+use Rattle.verdicts.proofs.Named.{place-most}
 use Rattle.receiver.specs.declared.ClockAnswer.{ClockAnswer}
 use Rattle.channel_b.specs.declared.Taken.{Taken}
 use Rattle.channel_b.specs.declared.Taken.the-variants.{Unfinished, Finished}
@@ -34,18 +36,19 @@ use Rattle.stored_line.specs.declared.StoredLine.the-variants.{Frame, Refused}
 use Rattle.stored_line.proofs.Digits.{length-digits}
 use Rattle.stored_line.proofs.Refusals.{RefusalSmall, refusal-small}
 use Rattle.line_report.specs.declared.LinePart.{LinePart}
-use Rattle.line_report.specs.Text.{decimal, wordDigits, wordText, verdictText, refusalText, answerText, lineText, countsText, endText}
+use Rattle.line_report.specs.Text.{decimal, wordDigits, printsDash, wordText, printsPlace, placeText, verdictText, refusalText, answerText, lineText, countsText, endText}
 use Rattle.line_report.specs.Output.{feedLine, nextLine, linePrints}
 use Rattle.line_report.specs.declared.Report.{Report}
 use Rattle.line_report.specs.Write.{TextAt}
 use Rattle.line_report.specs.Report.{readPart, digitsOf, longestAnswer, longestLine, lastPrints}
 use Rattle.line_report.proofs.Decimal.{one-digit, few-digits, twenty-digits}
 
--- ---- no verdict is larger than the largest, the flag has one digit, a refusal at most three
+-- ---- no verdict and no place is larger than the largest, the flag has one digit, a refusal at most three
 
 record Shown (shown : Outputs) : Type 0 where
   verdict-most : shown .verdict ≤ largestVerdict
   flag-below : shown .corrected < 10
+  place-at-most : shown .place ≤ largestPlace
 
 record Small (answer : ClockAnswer) : Type 0 where
   refusal-below : answer .refusal < 1000
@@ -53,20 +56,26 @@ record Small (answer : ClockAnswer) : Type 0 where
 
 flag-small : (kind : Kind) (judged : Judged) → answerTo kind judged .corrected < 10
 flag-small kind StopZero = lit< tt
-flag-small kind Uncorrectable = lit< tt
+flag-small kind EvenSyndrome = lit< tt
+flag-small kind OddSyndrome = lit< tt
 flag-small kind (FixedZero word) = lit< tt
 flag-small kind (Good word flag wrong) = picked (λ (n : ℕ). n < 10) flag (lit< tt) (lit< tt)
 
+place-small : (kind : Kind) (judged : Judged) → answerTo kind judged .place ≤ largestPlace
+place-small Short judged = omega (arith, place-most Short judged)
+place-small Long judged = place-most Long judged
+
 nothing-shown : Shown noOutputs
-nothing-shown = record { verdict-most = omega arith; flag-below = lit< tt }
+nothing-shown = record { verdict-most = omega arith; flag-below = lit< tt; place-at-most = omega arith }
 
 applied-small : (columns : Kind → List ℕ) (taken : Taken) (core : Core) (trigger : ℕ) → Shown (applyFrame columns taken (idleClock core trigger) .outputs)
 unfolding finished finishedAnswer idleClock
-applied-small columns (Unfinished held) core trigger = record { verdict-most = omega arith; flag-below = lit< tt }
+applied-small columns (Unfinished held) core trigger = record { verdict-most = omega arith; flag-below = lit< tt; place-at-most = omega arith }
 applied-small columns (Finished kind number) core trigger =
     record {
       verdict-most = not-larger columns kind number (idleClock core trigger);
       flag-below = flag-small kind (judged (columns kind) kind number);
+      place-at-most = place-small kind (judged (columns kind) kind number);
     }
 
 refused-small : (refusal : ℕ) (r : Receiver) → refusal < 1000 → Small (refusedClock refusal r)
@@ -107,8 +116,7 @@ AtMost8 text = length text ≤ 8
 word-length : (digits : ℕ) (shown : Outputs) → digits ≤ 8 → length (wordText digits shown) ≤ 8
 unfolding wordText
 word-length digits shown h =
-    picked AtMost8 (eqb (shown .verdict) 7) (omega arith)
-    (picked AtMost8 (eqb (shown .verdict) 8) (omega arith) (omega (arith, length-digits digits (shown .word))))
+    picked AtMost8 (printsDash (shown .verdict)) (omega arith) (omega (arith, length-digits digits (shown .word)))
 
 -- a number that is no larger has no more digits
 digits-most : (n most : ℕ) → n ≤ most → most < 1000 → length (decimal n) ≤ digitsOf most
@@ -120,14 +128,21 @@ digits-most n most h few =
     Enough : ℕ → Type 0
     Enough digits = length (decimal n) ≤ digits
 
+place-length : (shown : Outputs) → Shown shown → length (placeText shown) ≤ 1 + digitsOf largestPlace
+unfolding placeText
+place-length shown s =
+    picked (λ (text : List ℕ). length text ≤ 1 + digitsOf largestPlace) (printsPlace (shown .verdict))
+    (let digits = digits-most (shown .place) largestPlace (s .place-at-most) (lit< tt) in omega arith) (omega arith)
+
 verdict-length : (digits : ℕ) (shown : Outputs) → digits ≤ 8 → Shown shown → length (verdictText digits shown) ≤ longestAnswer
 unfolding verdictText
 verdict-length digits shown h s =
     let verdict = digits-most (shown .verdict) largestVerdict (s .verdict-most) (lit< tt) in
     let flag = ap length (one-digit (shown .corrected) (s .flag-below)) in
-    let behind = length-append (32 ∷ decimal (shown .corrected)) (32 ∷ wordText digits shown) in
-    let all = length-append (decimal (shown .verdict)) ((32 ∷ decimal (shown .corrected)) ++ (32 ∷ wordText digits shown)) in
-    omega (arith, word-length digits shown h)
+    let last = length-append (wordText digits shown) (placeText shown) in
+    let behind = length-append (32 ∷ decimal (shown .corrected)) (32 ∷ (wordText digits shown ++ placeText shown)) in
+    let all = length-append (decimal (shown .verdict)) ((32 ∷ decimal (shown .corrected)) ++ (32 ∷ (wordText digits shown ++ placeText shown))) in
+    omega (arith, word-length digits shown h, place-length shown s)
 
 refusal-length : (refusal : ℕ) → refusal < 1000 → length (refusalText refusal) ≤ longestAnswer
 unfolding refusalText

@@ -5,8 +5,9 @@ use mathlib.Core.List.{List, [], _∷_, _++_, append-nil, append-assoc}
 use Prim.Native.Nat.{ℕ}
 use borrow.Author.Tests.{not-true}
 use lib.Dec.{eqb}
-use lib.Count.{ones}
+use lib.Count.{ones, trailingZeros}
 use Rattle.laws.specs.Tests.{every}
+use Rattle.laws.specs.OneOf.{oneOf}
 use Rattle.laws.specs.LowestOne.{lowestOne}
 use Rattle.laws.proofs.Tests.{both}
 use Rattle.hamming.specs.Code.{checkNumber, syndrome, firstFrom, bySyndrome, decodeWord}
@@ -39,7 +40,7 @@ use Rattle.stored_line.specs.declared.StoredLine.{StoredLine}
 use Rattle.stored_line.specs.declared.StoredLine.the-variants.{Frame, Refused}
 use Rattle.stored_line.specs.Digits.{digitValue, allDigits, hexNumber, hexAnswer, digitCharacter, hexDigits}
 use Rattle.stored_line.specs.Read.{readLine}
-use Rattle.line_report.specs.Text.{decimalUpTo, decimal, kindDigits, wordDigits, wordText, verdictText, refusalText, answerText, lineText, countsText, endText}
+use Rattle.line_report.specs.Text.{decimalUpTo, decimal, kindDigits, wordDigits, printsDash, wordText, printsPlace, placeText, verdictText, refusalText, answerText, lineText, countsText, endText}
 use Rattle.line_report.specs.Output.{linesAfter, feedLine, onesSent, afterLine, nextLine, linesPrint, outputOf}
 use Rattle.line_report.specs.Example.{endedLines, line1, line2, line3, line4, line5, line6, line7, line8, exampleLines, text1, text2, text3, text4, text5, text6, text7, text8, text9, ExampleOutput}
 
@@ -119,9 +120,9 @@ having coarse single double status5 bunch =
       sequence = noSequence;
     }
 
--- verdict, corrected flag, word
-abbrev showing : ℕ → ℕ → ℕ → Outputs
-showing verdict corrected word = showingFrame verdict corrected word noOutputs
+-- verdict, corrected flag, place, word
+abbrev showing : ℕ → ℕ → ℕ → ℕ → Outputs
+showing verdict corrected place word = showingFrame verdict corrected place word noOutputs
 
 -- a frame with another verdict than 7, and one with 7
 abbrev Line : Core → ℕ → List ℕ → Kind → ℕ → Core → Outputs → List ℕ → Type 0
@@ -131,26 +132,26 @@ abbrev BadStopLine : Core → ℕ → List ℕ → Kind → ℕ → Core → Out
 BadStopLine core lines characters kind number left shown after text = FrameLine core lines characters kind number (wantingOnes 41) left shown after text
 
 record EightLines : Type 0 where
-  first : Line (having 0 0 0 1 0) 0 line1 Short 0x004F (having 0 0 0 1 0) (showing 1 0 0x01) text1
-  second : Line (having 0 0 0 1 0) 1 line2 Short 0x2097 (having 0 1 0 1 16) (showing 1 1 0x02) text2
+  first : Line (having 0 0 0 1 0) 0 line1 Short 0x004F (having 0 0 0 1 0) (showing 1 0 0 0x01) text1
+  second : Line (having 0 0 0 1 0) 1 line2 Short 0x2097 (having 0 1 0 1 16) (showing 1 1 1 0x02) text2
   -- 41 clocks more
-  third : BadStopLine (having 0 1 0 1 16) 2 line3 Short 0x004E (having 0 1 1 0 32) (showing 7 0 0) (having 0 1 1 0 73) text3
-  fourth : Line (having 0 1 1 0 73) 3 line4 Short 0x304F (having 0 1 2 1 89) (showing 8 0 0) text4
-  fifth : Line (having 0 1 2 1 89) 4 line5 Long 0x100150235AD (having 0x35 1 2 1 131) (showing 2 0 0x00150235) text5
-  sixth : Line (having 0x35 1 2 1 131) 5 line6 Long 0x180150235AD (having 0x35 2 2 1 173) (showing 2 1 0x00150235) text6
-  seventh : Line (having 0x35 2 2 1 173) 6 line7 Long 0x100190235B5 (having 0x35 2 2 1 215) (showing 5 0 0x00190235) text7
+  third : BadStopLine (having 0 1 0 1 16) 2 line3 Short 0x004E (having 0 1 1 0 32) (showing 7 0 0 0) (having 0 1 1 0 73) text3
+  fourth : Line (having 0 1 1 0 73) 3 line4 Short 0x304F (having 0 1 2 1 89) (showing 8 0 0 0) text4
+  fifth : Line (having 0 1 2 1 89) 4 line5 Long 0x100150235AD (having 0x35 1 2 1 131) (showing 2 0 0 0x00150235) text5
+  sixth : Line (having 0x35 1 2 1 131) 5 line6 Long 0x180150235AD (having 0x35 2 2 1 173) (showing 2 1 1 0x00150235) text6
+  seventh : Line (having 0x35 2 2 1 173) 6 line7 Long 0x100190235B5 (having 0x35 2 2 1 215) (showing 5 0 0 0x00190235) text7
   eighth-reads : readLine line8 ≡ Refused 12
   eighth-prints : lineText 8 0 (refusedClock 12 (waiting (having 0x35 2 2 1 215))) ≡ text8 ++ (10 ∷ [])
   no-ones : onesSent columnsOf (refusedClock 12 (waiting (having 0x35 2 2 1 215))) ≡ waiting (having 0x35 2 2 1 215)
   end-prints : linesPrint columnsOf (waiting (having 0x35 2 2 1 215)) 8 [] ≡ text9 ++ (10 ∷ [])
 
 -- the ones after the third line, done at once
-ones-after-third : onesSent columnsOf (clockedAnswer (wantingOnes 41) (clocked (having 0 1 1 0 32) (showing 7 0 0))) ≡ waiting (having 0 1 1 0 73)
+ones-after-third : onesSent columnsOf (clockedAnswer (wantingOnes 41) (clocked (having 0 1 1 0 32) (showing 7 0 0 0))) ≡ waiting (having 0 1 1 0 73)
 unfolding onesSent every hasSetting idsOk settingsOk countersOk sequenceOk coreOk bitsOk wantedOk heldOk wellFormed restFor
 ones-after-third = ap (λ (a : ClockAnswer). a .receiver) (receiver-whole-frames .ones-after-7 (receiver (having 0 1 1 0 32) (wantingOnes 41)) refl refl .0)
 
 eight-lines : EightLines
-unfolding ones lowestOne hasSetting every checkNumber syndrome firstFrom bySyndrome decodeWord isFrame judged idsOk settingsOk countersOk sequenceOk coreOk bitsOk wantedOk heldOk wellFormed upTo doubleUp clearedBy withoutSetting stored foreign longRow tableRow countErrors finished finishedAnswer heldAfter restFor digitValue allDigits hexNumber hexAnswer digitCharacter hexDigits readLine decimalUpTo decimal wordText verdictText refusalText answerText lineText countsText endText linesPrint onesSent
+unfolding ones trailingZeros lowestOne hasSetting every checkNumber syndrome firstFrom bySyndrome decodeWord isFrame judged idsOk settingsOk countersOk sequenceOk coreOk bitsOk wantedOk heldOk wellFormed upTo doubleUp clearedBy withoutSetting stored foreign longRow tableRow countErrors finished finishedAnswer heldAfter restFor digitValue allDigits hexNumber hexAnswer digitCharacter hexDigits readLine decimalUpTo decimal oneOf printsDash wordText printsPlace placeText verdictText refusalText answerText lineText countsText endText linesPrint onesSent
 eight-lines =
     record {
       first = record { reads = refl; is-frame = refl; well-formed = refl; done = refl; leaves = refl; ones = refl; prints = refl };

@@ -1,6 +1,8 @@
--- A line's text of 35 bytes, and an end of 31 and of 63, computed. Assumes nothing.
+-- A line's text of 38 bytes, and an end of 31 and of 66, computed. Assumes nothing.
 use mathlib.Core.Path.{refl}
+use lib.Count.{ones, trailingZeros}
 use Rattle.laws.specs.Tests.{every}
+use Rattle.laws.specs.OneOf.{oneOf}
 use Rattle.laws.specs.LowestOne.{lowestOne}
 use Rattle.hamming.specs.Code.{checkNumber, syndrome, firstFrom, bySyndrome, decodeWord}
 use Rattle.frame.specs.Numbers.{isFrame}
@@ -18,11 +20,11 @@ use Rattle.receiver.specs.Clock.{stepAnswer, clockAnswer}
 use Rattle.whole_frame.specs.WholeFrame.{clocksAnswer, receiveAnswer}
 use Rattle.stored_line.specs.Digits.{digitValue, allDigits, hexNumber, hexAnswer, digitCharacter, hexDigits}
 use Rattle.stored_line.specs.Read.{readLine}
-use Rattle.line_report.specs.Text.{decimalUpTo, decimal, wordText, verdictText, refusalText, answerText, lineText, countsText, endText}
+use Rattle.line_report.specs.Text.{decimalUpTo, decimal, printsDash, wordText, printsPlace, placeText, verdictText, refusalText, answerText, lineText, countsText, endText}
 use Rattle.line_report.specs.Output.{onesSent}
 use Rattle.line_report.specs.Report.{readPart, bytePrints, afterLast, lastPrints}
 use Rattle.line_report.specs.Cuts.{LongestReached}
 
 pub longest-reached : LongestReached
-unfolding hasSetting every lowestOne checkNumber syndrome firstFrom bySyndrome decodeWord isFrame judged idsOk settingsOk countersOk sequenceOk coreOk bitsOk wantedOk heldOk wellFormed upTo doubleUp clearedBy withoutSetting stored foreign longRow tableRow countErrors finished finishedAnswer frameOrPart betweenFrames takeBit heldAfter countClock continued started busStep idleClock stepAnswer clockAnswer bitsOf clocksAnswer receiveAnswer digitValue allDigits hexNumber hexAnswer digitCharacter hexDigits readLine decimalUpTo decimal wordText verdictText refusalText answerText lineText countsText endText readPart bytePrints afterLast lastPrints onesSent
+unfolding hasSetting every ones trailingZeros lowestOne checkNumber syndrome firstFrom bySyndrome decodeWord isFrame judged idsOk settingsOk countersOk sequenceOk coreOk bitsOk wantedOk heldOk wellFormed upTo doubleUp clearedBy withoutSetting stored foreign longRow tableRow countErrors finished finishedAnswer frameOrPart betweenFrames takeBit heldAfter countClock continued started busStep idleClock stepAnswer clockAnswer bitsOf clocksAnswer receiveAnswer digitValue allDigits hexNumber hexAnswer digitCharacter hexDigits readLine decimalUpTo decimal oneOf printsDash wordText printsPlace placeText verdictText refusalText answerText lineText countsText endText readPart bytePrints afterLast lastPrints onesSent
 longest-reached = record { line = refl; counts = refl; full-is-well-formed = refl; last-line = refl }

@@ -1,25 +1,25 @@
 -- A word's digits, written to the rest of the buffer from a place on. Assumes nothing.
 use mathlib.Core.Path.{_≡_, refl, sym, ap, _∙_}
-use mathlib.Core.Logic.{_≢_}
+use mathlib.Core.Bool.{false}
 use mathlib.Core.List.{List, [], _++_, append-nil, append-assoc}
 use Prim.Native.Nat.{ℕ, _+_, _-_, _≤_}
 use native.Mathlib.Omega.{arith}
-use borrow.Author.Tests.{ne-eqb, le-ltb}
+use borrow.Author.Tests.{le-ltb}
 use lib.ListN.{length, take, drop, length-drop, drop-of-length-le}
 use lib.Seq.{take-all, drop-drop, sets-eq}
 use Rattle.receiver_state.specs.declared.Outputs.{Outputs}
 use Rattle.stored_line.specs.Digits.{hexDigits, hexWritten}
 use Rattle.stored_line.proofs.Digits.{length-digits}
-use Rattle.line_report.specs.Text.{wordText}
+use Rattle.line_report.specs.Text.{printsDash, wordText}
 use Rattle.line_report.specs.Write.{TextAt}
 
 module _ (digits at : ℕ) (shown : Outputs) where
-  shown-word : shown .verdict ≢ 7 → shown .verdict ≢ 8 → wordText digits shown ≡ hexDigits digits (shown .word)
+  shown-word : printsDash (shown .verdict) ≡ false → wordText digits shown ≡ hexDigits digits (shown .word)
   unfolding wordText
-  shown-word a b = rw (ne-eqb _ 7 a, ne-eqb _ 8 b) refl
+  shown-word d = rw d refl
 
-  pub hex-room : {room : ℕ} → shown .verdict ≢ 7 → shown .verdict ≢ 8 → at + length (wordText digits shown) ≤ room → at + digits ≤ room
-  hex-room a b h = omega (arith, ap length (shown-word a b), length-digits digits (shown .word))
+  pub hex-room : {room : ℕ} → printsDash (shown .verdict) ≡ false → at + length (wordText digits shown) ≤ room → at + digits ≤ room
+  hex-room d h = omega (arith, ap length (shown-word d), length-digits digits (shown .word))
 
   module _ (out last : List ℕ) where
     rest-is : at + digits ≤ length out → last ≡ hexWritten digits (shown .word) (take (length out - at) (drop at out))
@@ -31,16 +31,16 @@ module _ (digits at : ℕ) (shown : Outputs) where
         let enough : digits ≤ length (drop at out) = omega (arith, length-drop at out) in
         e ∙ ap (hexWritten digits (shown .word)) whole ∙ rw (le-ltb (length (drop at out)) digits enough, drop-drop digits at out) refl
 
-    pub hex-stored : shown .verdict ≢ 7 → shown .verdict ≢ 8 → at + length (wordText digits shown) ≤ length out
+    pub hex-stored : printsDash (shown .verdict) ≡ false → at + length (wordText digits shown) ≤ length out
         → last ≡ hexWritten digits (shown .word) (take (length out - at) (drop at out))
         → TextAt (at + digits) at (wordText digits shown) out (take at out ++ (last ++ drop (length out - at) (drop at out)))
-    hex-stored a b h e =
-        let room = hex-room a b h in
+    hex-stored d h e =
+        let room = hex-room d h in
         let word = hexDigits digits (shown .word) in
         let size = length-digits digits (shown .word) in
         let covers : length (drop at out) ≤ length out - at = omega (arith, length-drop at out) in
         let none : drop (length out - at) (drop at out) ≡ [] = drop-of-length-le (drop at out) covers in
-        rw (shown-word a b)
+        rw (shown-word d)
         (record {
           next-is = ap (λ (n : ℕ). at + n) (sym size);
           stored =

@@ -1,6 +1,6 @@
 -- One text stored behind another. Assumes nothing.
-use mathlib.Core.Path.{_≡_, sym, ap, _∙_}
-use mathlib.Core.List.{List, _∷_, _++_}
+use mathlib.Core.Path.{_≡_, refl, sym, ap, _∙_}
+use mathlib.Core.List.{List, [], _∷_, _++_}
 use Prim.Native.Nat.{ℕ, _+_, _≤_, _<_}
 use native.Mathlib.Omega.{arith}
 use lib.ListN.{length, length-append}
@@ -21,6 +21,10 @@ then-text {n₁} {n₂} {at} first second {b₀} s t =
           ∙ ap (λ (n : ℕ). sets (sets b₀ at first) n second) (s .next-is)
           ∙ sym (sets-append first second b₀ at);
     }
+
+-- nothing stored
+pub nothing-stored : (at : ℕ) (before : List ℕ) → TextAt at at [] before before
+nothing-stored at before = record { next-is = omega arith; stored = refl }
 
 -- the buffer keeps its length
 pub kept-length : {n at : ℕ} {text before after : List ℕ} → TextAt n at text before after → length after ≡ length before

@@ -144,16 +144,16 @@ ReportCuts = Cuts columnsOf
 
 -- ---- the longest texts
 
--- the line 1001500F387, a frame with data 243 for register 0: verdict 10 has two digits, and the word has 8
+-- the line 1001500F385, a frame with data 243 for register 0 whose last check bit is wrong: verdict 10 and place 39 have two digits, and the word has 8
 abbrev longLine : LinePart
-longLine = linePart 11 (49 ∷ 48 ∷ 48 ∷ 49 ∷ 53 ∷ 48 ∷ 48 ∷ 70 ∷ 51 ∷ 56 ∷ 55 ∷ [])
+longLine = linePart 11 (49 ∷ 48 ∷ 48 ∷ 49 ∷ 53 ∷ 48 ∷ 48 ∷ 70 ∷ 51 ∷ 56 ∷ 53 ∷ [])
 
 -- well formed, with as many digits in its counters as there can be, 42 clocks on too
 abbrev pub fullReceiver : Receiver
 fullReceiver = receiver (withErrors (errors 65535 255 1) (withCounters (counters 1000 (2 ^ 24 - 1)) (freshCore (ids 5 5)))) nothingHeld
 
--- `longestLine` is reached. `longestEnd` is a sum of two parts, and each is reached; no end has both, so none has 66 bytes. (That is not proved; the
--- one below has 63.) Proved in proofs/Longest.antt.
+-- `longestLine` is reached. `longestEnd` is a sum of two parts, and each is reached; no end has both, so none has 69 bytes. (That is not proved; the
+-- one below has 66.) Proved in proofs/Longest.antt.
 pub record LongestReached : Type 0 where
   -- by line 18446744073709551615
   pub line : length (bytePrints columnsOf (report ownReceiver (2 ^ 64 - 2) longLine) 10) ≡ longestLine
@@ -161,4 +161,4 @@ pub record LongestReached : Type 0 where
   pub counts : longestLine + length (endText (2 ^ 16 - 1) (2 ^ 8 - 1) (2 ^ 32 - 1) (2 ^ 16 - 1)) ≡ longestEnd
   -- the end of a well-formed receiver
   pub full-is-well-formed : wellFormed fullReceiver ≡ true
-  pub last-line : length (endPrints columnsOf (report fullReceiver (2 ^ 64 - 2) longLine)) ≡ 63
+  pub last-line : length (endPrints columnsOf (report fullReceiver (2 ^ 64 - 2) longLine)) ≡ 66

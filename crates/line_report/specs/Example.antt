@@ -1,4 +1,4 @@
--- Document 01, "Stored lines": its example of `ttclines`, "Input and whole output". Proved in proofs/Example.antt.
+-- Document 01, "Stored lines", with document 02, Q-1 and Q-8: its example of `ttclines`, "Input and whole output". Proved in proofs/Example.antt.
 use Prim.Native.Nat.{ℕ}
 use mathlib.Core.Path.{_≡_}
 use mathlib.Core.List.{List, [], _∷_, _++_}
@@ -49,13 +49,15 @@ exampleLines = line1 ∷ line2 ∷ line3 ∷ line4 ∷ line5 ∷ line6 ∷ line7
 
 -- ---- the output
 
--- 1 1 0 01
-abbrev pub text1 : List ℕ
-text1 = 49 ∷ 32 ∷ 49 ∷ 32 ∷ 48 ∷ 32 ∷ 48 ∷ 49 ∷ []
+-- Q-8: "In the example lines 2 and 6 get place 1, and lines 1, 5 and 7 place 0."
 
--- 2 1 1 02
+-- 1 1 0 01 0
+abbrev pub text1 : List ℕ
+text1 = 49 ∷ 32 ∷ 49 ∷ 32 ∷ 48 ∷ 32 ∷ 48 ∷ 49 ∷ 32 ∷ 48 ∷ []
+
+-- 2 1 1 02 1
 abbrev pub text2 : List ℕ
-text2 = 50 ∷ 32 ∷ 49 ∷ 32 ∷ 49 ∷ 32 ∷ 48 ∷ 50 ∷ []
+text2 = 50 ∷ 32 ∷ 49 ∷ 32 ∷ 49 ∷ 32 ∷ 48 ∷ 50 ∷ 32 ∷ 49 ∷ []
 
 -- 3 7 0 -
 abbrev pub text3 : List ℕ
@@ -65,17 +67,17 @@ text3 = 51 ∷ 32 ∷ 55 ∷ 32 ∷ 48 ∷ 32 ∷ 45 ∷ []
 abbrev pub text4 : List ℕ
 text4 = 52 ∷ 32 ∷ 56 ∷ 32 ∷ 48 ∷ 32 ∷ 45 ∷ []
 
--- 5 2 0 00150235
+-- 5 2 0 00150235 0
 abbrev pub text5 : List ℕ
-text5 = 53 ∷ 32 ∷ 50 ∷ 32 ∷ 48 ∷ 32 ∷ 48 ∷ 48 ∷ 49 ∷ 53 ∷ 48 ∷ 50 ∷ 51 ∷ 53 ∷ []
+text5 = 53 ∷ 32 ∷ 50 ∷ 32 ∷ 48 ∷ 32 ∷ 48 ∷ 48 ∷ 49 ∷ 53 ∷ 48 ∷ 50 ∷ 51 ∷ 53 ∷ 32 ∷ 48 ∷ []
 
--- 6 2 1 00150235
+-- 6 2 1 00150235 1
 abbrev pub text6 : List ℕ
-text6 = 54 ∷ 32 ∷ 50 ∷ 32 ∷ 49 ∷ 32 ∷ 48 ∷ 48 ∷ 49 ∷ 53 ∷ 48 ∷ 50 ∷ 51 ∷ 53 ∷ []
+text6 = 54 ∷ 32 ∷ 50 ∷ 32 ∷ 49 ∷ 32 ∷ 48 ∷ 48 ∷ 49 ∷ 53 ∷ 48 ∷ 50 ∷ 51 ∷ 53 ∷ 32 ∷ 49 ∷ []
 
--- 7 5 0 00190235
+-- 7 5 0 00190235 0
 abbrev pub text7 : List ℕ
-text7 = 55 ∷ 32 ∷ 53 ∷ 32 ∷ 48 ∷ 32 ∷ 48 ∷ 48 ∷ 49 ∷ 57 ∷ 48 ∷ 50 ∷ 51 ∷ 53 ∷ []
+text7 = 55 ∷ 32 ∷ 53 ∷ 32 ∷ 48 ∷ 32 ∷ 48 ∷ 48 ∷ 49 ∷ 57 ∷ 48 ∷ 50 ∷ 51 ∷ 53 ∷ 32 ∷ 48 ∷ []
 
 -- 8 ! 12
 abbrev pub text8 : List ℕ

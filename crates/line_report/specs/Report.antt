@@ -1,4 +1,4 @@
--- Document 01, "Stored lines", with document 02, Q-1, for an input that comes in pieces: the report's state, one byte of input, a
+-- Document 01, "Stored lines", with document 02, Q-1 and Q-8, for an input that comes in pieces: the report's state, one byte of input, a
 -- piece, and the end of input.
 -- `Report`, `LinePart` and `Reported` are structs of src/lib.rt.
 use Prim.Native.Nat.{ℕ, suc, _+_, _-_}
@@ -8,6 +8,7 @@ use lib.Dec.{eqb, ltb}
 use lib.ListN.{length, take, drop, set}
 use Rattle.frame.specs.declared.Kind.{Kind}
 use Rattle.frame.specs.declared.Kind.the-variants.{Long}
+use Rattle.frame.specs.Place.{largestPlace}
 use Rattle.receiver_state.specs.declared.Receiver.{Receiver}
 use Rattle.verdicts.specs.Table.{largestVerdict}
 use Rattle.stored_line.specs.declared.StoredLine.{StoredLine}
@@ -96,11 +97,11 @@ module _ (columns : Kind → List ℕ) where
 abbrev pub digitsOf : ℕ → ℕ
 digitsOf n = cond (ltb n 10) 1 (cond (ltb n 100) 2 3)
 
--- the longest text of an answer: the largest verdict, the flag, and the word of a long frame, with two spaces between
+-- the longest text of an answer: the largest verdict, the flag, the word of a long frame and the largest place, with three spaces between
 abbrev pub longestAnswer : ℕ
-longestAnswer = digitsOf largestVerdict + 1 + 1 + 1 + kindDigits Long
+longestAnswer = digitsOf largestVerdict + 1 + 1 + 1 + kindDigits Long + 1 + digitsOf largestPlace
 
--- the longest text of a line: a line number of 20 digits, a space, an answer and the line feed; 35 in all
+-- the longest text of a line: a line number of 20 digits, a space, an answer and the line feed; 38 in all
 abbrev pub longestLine : ℕ
 longestLine = 20 + 1 + longestAnswer + 1
 
@@ -152,7 +153,7 @@ reportInput columns now input buffer =
 
 -- ---- the end of input
 
--- room that is always enough for the end: a last line, and 31 bytes for `end` with numbers of 5, 3, 10 and 5 digits; 66 in all
+-- room that is always enough for the end: a last line, and 31 bytes for `end` with numbers of 5, 3, 10 and 5 digits; 69 in all
 abbrev pub longestEnd : ℕ
 longestEnd = longestLine + 31
 

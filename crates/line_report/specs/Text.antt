@@ -1,9 +1,10 @@
--- Document 01, "Stored lines": the text that `ttclines` prints of a line, and at the end, as lists of characters' codes.
+-- Document 01, "Stored lines", with document 02, Q-8: the text that `ttclines` prints of a line, and at the end, as lists of characters' codes.
 -- "One space stands between fields."
 use Prim.Native.Nat.{ℕ, zero, suc, _/_, _%_}
-use mathlib.Core.Bool.{cond}
+use mathlib.Core.Bool.{Bool, cond}
 use mathlib.Core.List.{List, [], _∷_, _++_}
 use lib.Dec.{eqb, ltb}
+use Rattle.laws.specs.OneOf.{oneOf}
 use Rattle.frame.specs.declared.Kind.{Kind}
 use Rattle.frame.specs.declared.Kind.the-variants.{Short, Long}
 use Rattle.receiver_state.specs.declared.Core.{Core}
@@ -33,16 +34,25 @@ abbrev pub wordDigits : StoredLine → ℕ
 wordDigits (Frame kind number) = kindDigits kind
 wordDigits (Refused refusal) = 0
 
+-- "`-` for 7 and 8"; document 02, Q-8, of 8 and 11: "print `-`"
+unfoldable pub printsDash : ℕ → Bool
+printsDash verdict = oneOf (7 ∷ 8 ∷ 11 ∷ []) verdict
+
 -- "word (2 or 8 capital digits, `-` for 7 and 8)"
 unfoldable pub wordText : ℕ → Outputs → List ℕ
-wordText digits shown =
-    cond (eqb (shown .verdict) 7) (45 ∷ [])
-    (cond (eqb (shown .verdict) 8) (45 ∷ [])
-    (hexDigits digits (shown .word)))
+wordText digits shown = cond (printsDash (shown .verdict)) (45 ∷ []) (hexDigits digits (shown .word))
 
--- "verdict, corrected flag, word"
+-- Q-8: "`ttclines` prints that place as a last field for verdicts 1 to 6, 9 and 10."
+unfoldable pub printsPlace : ℕ → Bool
+printsPlace verdict = oneOf (1 ∷ 2 ∷ 3 ∷ 4 ∷ 5 ∷ 6 ∷ 9 ∷ 10 ∷ []) verdict
+
+unfoldable pub placeText : Outputs → List ℕ
+placeText shown = cond (printsPlace (shown .verdict)) (32 ∷ decimal (shown .place)) []
+
+-- "verdict, corrected flag, word", and the place
 unfoldable pub verdictText : ℕ → Outputs → List ℕ
-verdictText digits shown = decimal (shown .verdict) ++ ((32 ∷ decimal (shown .corrected)) ++ (32 ∷ wordText digits shown))
+verdictText digits shown =
+    decimal (shown .verdict) ++ ((32 ∷ decimal (shown .corrected)) ++ (32 ∷ (wordText digits shown ++ placeText shown)))
 
 -- "`!`, refusal"
 unfoldable pub refusalText : ℕ → List ℕ
@@ -52,7 +62,7 @@ refusalText refusal = 33 ∷ 32 ∷ decimal refusal
 unfoldable pub answerText : ℕ → ClockAnswer → List ℕ
 answerText digits answer = cond (eqb (answer .refusal) 0) (verdictText digits (answer .outputs)) (refusalText (answer .refusal))
 
--- "line number, verdict, corrected flag, word ..; or line number, `!`, refusal", and a line feed
+-- "line number, verdict, corrected flag, word ..; or line number, `!`, refusal", the place after the word, and a line feed
 unfoldable pub lineText : ℕ → ℕ → ClockAnswer → List ℕ
 lineText number digits answer = decimal number ++ (32 ∷ (answerText digits answer ++ (10 ∷ [])))
 

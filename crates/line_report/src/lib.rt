@@ -63,9 +63,9 @@ struct Ended {
 }
 
 // The longest text of a line, and room that is always enough for the end.
-pub const LONGEST_LINE: usize = 35;
+pub const LONGEST_LINE: usize = 38;
 
-pub const LONGEST_END: usize = 66;
+pub const LONGEST_END: usize = 69;
 
 // A report at the beginning of its input.
 pub fn start_report() -> Report

@@ -1,9 +1,10 @@
-// Document 01, "Stored lines": the text of a line's report, and of the end. Each function stores its
-// text from a place of the buffer on, where there is room for it, and answers the place after it.
+// Document 01, "Stored lines", with document 02, Q-8: the text of a line's report, and of the end.
+// Each function stores its text from a place of the buffer on, where there is room for it, and answers the place after it.
+ghost use mathlib.Core.Path.{_≡_};
 ghost use mathlib.Core.List.{[], _∷_};
 ghost use Prim.Native.Nat.{_+_, _≤_, _<_};
 ghost use lib.ListN.{length};
-ghost use Rattle.line_report.specs.Text.{decimal, wordText, verdictText, refusalText, answerText, lineText, countsText, endText};
+ghost use Rattle.line_report.specs.Text.{decimal, printsDash, wordText, printsPlace, placeText, verdictText, refusalText, answerText, lineText, countsText, endText};
 ghost use Rattle.line_report.specs.Write.{TextAt};
 use receiver::ClockAnswer;
 use receiver_state::Outputs;
@@ -37,21 +38,57 @@ fn put_field(number: u64, at: usize, out: &mut [u8]) -> usize
     put_decimal(number, next, out)
 }
 
+// The verdicts whose word is printed as `-`.
+fn prints_dash(verdict: u8) -> bool
+    ensures { λ r. ⌜ r ≡ printsDash verdict ⌝ }
+{
+    match verdict {
+        7 => true,
+        8 => true,
+        11 => true,
+        _ => false,
+    }
+}
+
 fn put_word(digits: usize, shown: Outputs, at: usize, out: &mut [u8]) -> usize
     requires { ⌜ at + length (wordText digits shown) ≤ length (now out) ⌝ }
     ensures { λ r. ⌜ TextAt r at (wordText digits shown) (now (out .entry)) (now (out .exit)) ⌝ }
 {
-    if shown.verdict == 7 {
-        return put(b'-', at, out);
-    }
-    if shown.verdict == 8 {
+    if prints_dash(shown.verdict) {
         return put(b'-', at, out);
     }
     write_hex(digits, shown.word as u64, &mut out[at..]);
     at + digits
 }
 
-// Verdict, corrected flag and word.
+// The verdicts with a place.
+fn prints_place(verdict: u8) -> bool
+    ensures { λ r. ⌜ r ≡ printsPlace verdict ⌝ }
+{
+    match verdict {
+        1 => true,
+        2 => true,
+        3 => true,
+        4 => true,
+        5 => true,
+        6 => true,
+        9 => true,
+        10 => true,
+        _ => false,
+    }
+}
+
+fn put_place(shown: Outputs, at: usize, out: &mut [u8]) -> usize
+    requires { ⌜ at + length (placeText shown) ≤ length (now out) ⌝ }
+    ensures { λ r. ⌜ TextAt r at (placeText shown) (now (out .entry)) (now (out .exit)) ⌝ }
+{
+    if prints_place(shown.verdict) {
+        return put_field(shown.place as u64, at, out);
+    }
+    at
+}
+
+// Verdict, corrected flag, word and place.
 fn put_verdict(digits: usize, shown: Outputs, at: usize, out: &mut [u8]) -> usize
     requires { ⌜ at + length (verdictText digits shown) ≤ length (now out) ⌝ }
     ensures { λ r. ⌜ TextAt r at (verdictText digits shown) (now (out .entry)) (now (out .exit)) ⌝ }
@@ -59,7 +96,8 @@ fn put_verdict(digits: usize, shown: Outputs, at: usize, out: &mut [u8]) -> usiz
     let after_verdict = put_decimal(shown.verdict as u64, at, out);
     let after_flag = put_field(shown.corrected as u64, after_verdict, out);
     let after_space = put(b' ', after_flag, out);
-    put_word(digits, shown, after_space, out)
+    let after_word = put_word(digits, shown, after_space, out);
+    put_place(shown, after_word, out)
 }
 
 fn put_refusal(refusal: u8, at: usize, out: &mut [u8]) -> usize

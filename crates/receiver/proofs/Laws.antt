@@ -10,8 +10,10 @@ use lib.Dec.{eqb, ltb}
 use Rattle.laws.specs.OneOf.{oneOf}
 use Rattle.laws.proofs.Rules.{picked-by, by-test}
 use Rattle.frame.specs.declared.Kind.{Kind}
+use Rattle.frame.specs.declared.Kind.the-variants.{Short, Long}
 use Rattle.frame.specs.Numbers.{stopBit}
 use Rattle.frame.specs.Columns.{columnsOf}
+use Rattle.frame.specs.Place.{places, largestPlace}
 use Rattle.frame.proofs.Columns.{tables-good}
 use Rattle.receiver_state.specs.declared.Settings.{Settings}
 use Rattle.receiver_state.specs.declared.Errors.{Errors}
@@ -35,13 +37,13 @@ use Rattle.channel_b.proofs.Bits.{bit-law}
 use Rattle.channel_b.proofs.Laws.{finishes-frames, after-frame}
 use Rattle.verdicts.specs.Table.{dropped}
 use Rattle.verdicts.specs.Finished.{finished, finishedBy}
-use Rattle.verdicts.specs.FrameLaws.{ErrorsMove, SettingsMove}
+use Rattle.verdicts.specs.FrameLaws.{BitNamed, ErrorsMove, SettingsMove}
 use Rattle.verdicts.specs.Laws.{VerdictLaws}
 use Rattle.verdicts.proofs.Laws.{verdict-theorem}
 use Rattle.receiver.specs.declared.ClockAnswer.{ClockAnswer}
 use Rattle.receiver.specs.Clock.{applyFrame, clockedAnswer, stepAnswer, refusedClock, clockAnswer}
 use Rattle.receiver.specs.Laws as laws
-use Rattle.receiver.specs.Laws.{CountersAdvance, Accepted, WaitsBut7, WantsAfter7, WantsOnlyAfter7, ClockLaws, ClockTheorem, ReceiverLaws}
+use Rattle.receiver.specs.Laws.{CountersAdvance, Accepted, PlaceShown, WaitsBut7, WantsAfter7, WantsOnlyAfter7, ClockLaws, ClockTheorem, ReceiverLaws}
 use Rattle.receiver.proofs.Unchecked.{step-is-clock, unfinished-step, finished-step}
 use Rattle.receiver.proofs.Keep.{step-facts}
 use Rattle.receiver.proofs.Advance.{unmoved-counters, advance}
@@ -184,18 +186,49 @@ module _ (columns : Kind → List ℕ) (verdicts : VerdictLaws columns) where
   unfolding idleClock
   nothing-shown r trigger bit =
       by-refusal None r trigger bit
-      (λ h. by-taken (λ taken a. None a) r trigger bit (λ held z. (refl, refl))
+      (λ h. by-taken (λ taken a. None a) r trigger bit (λ held z. (refl, refl, refl))
       (λ kind number z. absurd (verdicts .not-zero kind number (idleClock (r .core) trigger) z)))
-      (λ n m z. (refl, refl))
+      (λ n m z. (refl, refl, refl))
     where
       None : ClockAnswer → Type 0
-      None a = a .outputs .verdict ≡ 0 → (a .outputs .corrected ≡ 0) × (a .outputs .word ≡ 0)
+      None a = a .outputs .verdict ≡ 0 → (a .outputs .corrected ≡ 0) × (a .outputs .place ≡ 0) × (a .outputs .word ≡ 0)
 
   verdict-law : laws.VerdictLaw columns
   unfolding stepAnswer idleClock
   verdict-law r trigger bit kind number h f =
       rw (accepted r trigger bit h, f)
       (verdicts .shows-frame kind number (idleClock (r .core) trigger) (finishes-frames (r .held) bit kind number (receiver-facts r (h .0) .of-held) (h .2) f))
+
+  -- ---- the place
+
+  corrected-bit : laws.CorrectedBit columns
+  unfolding stepAnswer idleClock
+  corrected-bit r trigger bit kind number h f =
+      rw (accepted r trigger bit h, f)
+      (verdicts .bit-named kind number (idleClock (r .core) trigger) (finishes-frames (r .held) bit kind number (receiver-facts r (h .0) .of-held) (h .2) f))
+
+  -- of a finished frame, by its kind
+  most : (kind : Kind) → places kind ≤ largestPlace
+  most Short = omega arith
+  most Long = omega arith
+
+  named-place : (kind : Kind) (number : ℕ) (shown : Outputs) → BitNamed columns kind number shown → PlaceShown shown
+  named-place kind number shown n = record { no-place = n .no-place; first = n .first; last = omega (arith, n .last, most kind) }
+
+  no-place : (shown : Outputs) → shown .corrected ≡ 0 → shown .place ≡ 0 → PlaceShown shown
+  no-place shown f p = record { no-place = λ e. p; first = λ n. absurd (n f); last = omega arith }
+
+  place-law : laws.PlaceLaw columns
+  unfolding idleClock
+  place-law r trigger bit =
+      by-refusal (λ (a : ClockAnswer). PlaceShown (a .outputs)) r trigger bit
+      (λ h. by-taken (λ taken (a : ClockAnswer). takeBit (r .held) bit ≡ taken → PlaceShown (a .outputs)) r trigger bit
+      (λ held t. no-place _ refl refl)
+      (λ kind number t.
+      let named = corrected-bit r trigger bit kind number h t in
+      named-place kind number _ (subst (λ (a : ClockAnswer). BitNamed columns kind number (a .outputs)) (frame-law r trigger bit kind number h t) named))
+      refl)
+      (λ n m. no-place _ refl refl)
 
   -- ---- what is held after a frame
 
@@ -358,6 +391,8 @@ module _ (columns : Kind → List ℕ) (verdicts : VerdictLaws columns) where
     verdict-zero = verdict-zero;
     nothing-shown = nothing-shown;
     verdict-law = verdict-law;
+    corrected-bit = corrected-bit;
+    place-law = place-law;
     waits-after = waits-after;
     wants-after-7 = wants-after-7;
     wants-exactly = wants-exactly;

@@ -1,5 +1,5 @@
--- Document 01, "One clock": what holds of every clock, over the columns of each kind of frame. Proved in proofs/Laws.antt.
-use Prim.Native.Nat.{ℕ, _+_, _/_, _%_, _^_, _<_}
+-- Document 01, "One clock", with document 02, Q-1, Q-4 and Q-8: what holds of every clock, over the columns of each kind of frame. Proved in proofs/Laws.antt.
+use Prim.Native.Nat.{ℕ, _+_, _/_, _%_, _^_, _<_, _≤_}
 use mathlib.Core.Path.{_≡_}
 use mathlib.Core.Logic.{_≢_, _⊎_, _↔_}
 use mathlib.Core.Bool.{true, false}
@@ -7,6 +7,7 @@ use mathlib.Core.List.{List}
 use Rattle.frame.specs.declared.Kind.{Kind}
 use Rattle.frame.specs.Numbers.{isFrame}
 use Rattle.frame.specs.Columns.{columnsOf, GoodTables}
+use Rattle.frame.specs.Place.{largestPlace}
 use Rattle.frame.specs.Decode.{decodeFrame}
 use Rattle.receiver_state.specs.declared.Counters.{Counters}
 use Rattle.receiver_state.specs.declared.Held.{Held}
@@ -21,7 +22,7 @@ use Rattle.channel_b.specs.declared.Taken.the-variants.{Unfinished, Finished}
 use Rattle.channel_b.specs.TakeBit.{takeBit, heldAfter, Waits}
 use Rattle.verdicts.specs.Table.{executed}
 use Rattle.verdicts.specs.Finished.{finishedBy}
-use Rattle.verdicts.specs.FrameLaws.{ShowsFrame, ErrorsMove, SettingsMove, ExecutedFrame}
+use Rattle.verdicts.specs.FrameLaws.{ShowsFrame, BitNamed, ErrorsMove, SettingsMove, ExecutedFrame}
 use Rattle.receiver.specs.declared.ClockAnswer.{ClockAnswer}
 use Rattle.receiver.specs.Clock.{clockedAnswer, refusedClock, clockAnswer}
 
@@ -81,6 +82,13 @@ pub record WantsOnlyAfter7 (done : ClockAnswer) : Type 0 where
   pub exactly : (done .outputs .verdict ≡ 7) ↔ (done .receiver .held ≡ wantingOnes 41)
   pub else-none : done .outputs .verdict ≢ 7 → done .receiver .held .wanted ≡ 0
 
+-- ---- the place
+
+pub record PlaceShown (shown : Outputs) : Type 0 where
+  pub no-place : shown .corrected ≡ 0 → shown .place ≡ 0
+  pub first : shown .corrected ≢ 0 → 1 ≤ shown .place
+  pub last : shown .place ≤ largestPlace
+
 -- ---- the bit of channel B
 
 -- the bit finishes that frame
@@ -106,17 +114,27 @@ module _ (columns : Kind → List ℕ) where
       (r : Receiver) (trigger bit : ℕ) → Accepted r trigger bit
       → (clockAnswer columns r trigger bit .outputs .verdict ≡ 0) ↔ ((kind : Kind) (number : ℕ) → Finishes r bit kind number → ⊥)
 
-  -- "For 0, .. the flag is 0. The word shown is 0 for verdicts 0, ..": refused calls too
+  -- "For 0, .. the flag is 0. The word shown is 0 for verdicts 0, ..", and the place is 0: refused calls too
   abbrev pub NothingShown : Type 0
   NothingShown =
       (r : Receiver) (trigger bit : ℕ) → let shown = clockAnswer columns r trigger bit .outputs in
-      shown .verdict ≡ 0 → (shown .corrected ≡ 0) × (shown .word ≡ 0)
+      shown .verdict ≡ 0 → (shown .corrected ≡ 0) × (shown .place ≡ 0) × (shown .word ≡ 0)
 
-  -- a finished frame has the verdict of its row, and flag and word as decoding without a receiver answers them
+  -- a finished frame has the verdict of its row, and flag, place and word as decoding without a receiver answers them
   abbrev pub VerdictLaw : Type 0
   VerdictLaw =
       (r : Receiver) (trigger bit : ℕ) (kind : Kind) (number : ℕ) → Accepted r trigger bit → Finishes r bit kind number
       → ShowsFrame kind (decodeFrame (columns kind) kind number) (r .core .ids .id) (clockAnswer columns r trigger bit .outputs)
+
+  -- and the place names the bit that was corrected: flipped there, the number is the clean frame
+  abbrev pub CorrectedBit : Type 0
+  CorrectedBit =
+      (r : Receiver) (trigger bit : ℕ) (kind : Kind) (number : ℕ) → Accepted r trigger bit → Finishes r bit kind number
+      → BitNamed columns kind number (clockAnswer columns r trigger bit .outputs)
+
+  -- document 02, Q-8: "1 to 39 ..; it is 0 where the flag is 0", refused calls too
+  abbrev pub PlaceLaw : Type 0
+  PlaceLaw = (r : Receiver) (trigger bit : ℕ) → PlaceShown (clockAnswer columns r trigger bit .outputs)
 
   abbrev pub WaitsAfter : Type 0
   WaitsAfter = (r : Receiver) (trigger bit : ℕ) → WaitsBut7 (clockAnswer columns r trigger bit)
@@ -191,6 +209,8 @@ pub record ClockLaws (columns : Kind → List ℕ) : Type 0 where
   pub verdict-zero : VerdictZero columns
   pub nothing-shown : NothingShown columns
   pub verdict-law : VerdictLaw columns
+  pub corrected-bit : CorrectedBit columns
+  pub place-law : PlaceLaw columns
   pub waits-after : WaitsAfter columns
   pub wants-after-7 : WantsAfter columns
   pub wants-exactly : WantsExactly columns

@@ -5,17 +5,26 @@ use Rattle.receiver_state.specs.declared.Outputs.{Outputs}
 use Rattle.receiver_state.specs.Shown.{noOutputs, showingFrame, ShowsNothing, Stands, OutputsLaws}
 
 pub shows-nothing : (shown : Outputs) → ShowsNothing shown → shown ≡ noOutputs
-shows-nothing shown n = rw (n .no-trigger, n .no-missed, n .no-strobe, n .no-number, n .no-verdict, n .no-flag, n .no-word) refl
+shows-nothing shown n = rw (n .no-trigger, n .no-missed, n .no-strobe, n .no-number, n .no-verdict, n .no-flag, n .no-place, n .no-word) refl
 
 pub none-shown : ShowsNothing noOutputs
 none-shown =
-    record { no-trigger = refl; no-missed = refl; no-strobe = refl; no-number = refl; no-verdict = refl; no-flag = refl; no-word = refl }
+    record {
+      no-trigger = refl;
+      no-missed = refl;
+      no-strobe = refl;
+      no-number = refl;
+      no-verdict = refl;
+      no-flag = refl;
+      no-place = refl;
+      no-word = refl;
+    }
 
 pub same-stands : (shown : Outputs) → Stands shown shown
 same-stands shown = record { trigger-stands = refl; missed-stands = refl; strobe-stands = refl; number-stands = refl }
 
-pub frame-stands : (verdict corrected word : ℕ) (shown : Outputs) → Stands (showingFrame verdict corrected word shown) shown
-frame-stands verdict corrected word shown = record { trigger-stands = refl; missed-stands = refl; strobe-stands = refl; number-stands = refl }
+pub frame-stands : (verdict corrected place word : ℕ) (shown : Outputs) → Stands (showingFrame verdict corrected place word shown) shown
+frame-stands verdict corrected place word shown = record { trigger-stands = refl; missed-stands = refl; strobe-stands = refl; number-stands = refl }
 
 pub outputs-laws : OutputsLaws
 outputs-laws =

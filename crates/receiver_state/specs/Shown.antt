@@ -1,4 +1,4 @@
--- Document 01, "One clock": what a clock shows. `Outputs` is a struct of src/lib.rt.
+-- Document 01, "One clock", with document 02, Q-8: what a clock shows. `Outputs` is a struct of src/lib.rt.
 use Prim.Native.Nat.{ℕ}
 use mathlib.Core.Path.{_≡_}
 use mathlib.Core.Logic.{_↔_}
@@ -6,7 +6,7 @@ use Rattle.receiver_state.specs.declared.Outputs.{Outputs}
 
 -- what no step of a clock sets is 0, and so is every output of a refused call
 abbrev pub noOutputs : Outputs
-noOutputs = record { trigger = 0; missed = 0; strobe = 0; number = 0; verdict = 0; corrected = 0; word = 0 }
+noOutputs = record { trigger = 0; missed = 0; number = 0; strobe = 0; verdict = 0; corrected = 0; place = 0; word = 0 }
 
 -- ---- one part set
 
@@ -16,23 +16,25 @@ showingBus trigger missed strobe number shown =
     record {
       trigger = trigger;
       missed = missed;
-      strobe = strobe;
       number = number;
+      strobe = strobe;
       verdict = shown .verdict;
       corrected = shown .corrected;
+      place = shown .place;
       word = shown .word;
     }
 
--- in order: verdict, corrected flag and word of a finished frame
-abbrev pub showingFrame : ℕ → ℕ → ℕ → Outputs → Outputs
-showingFrame verdict corrected word shown =
+-- in order: verdict, corrected flag, place and word of a finished frame
+abbrev pub showingFrame : ℕ → ℕ → ℕ → ℕ → Outputs → Outputs
+showingFrame verdict corrected place word shown =
     record {
       trigger = shown .trigger;
       missed = shown .missed;
-      strobe = shown .strobe;
       number = shown .number;
+      strobe = shown .strobe;
       verdict = verdict;
       corrected = corrected;
+      place = place;
       word = word;
     }
 
@@ -46,9 +48,10 @@ pub record ShowsNothing (shown : Outputs) : Type 0 where
   pub no-number : shown .number ≡ 0
   pub no-verdict : shown .verdict ≡ 0
   pub no-flag : shown .corrected ≡ 0
+  pub no-place : shown .place ≡ 0
   pub no-word : shown .word ≡ 0
 
--- "the outputs of this clock stand": of two clocks, all but verdict, corrected flag and word are the same
+-- "the outputs of this clock stand": of two clocks, all but verdict, corrected flag, place and word are the same
 pub record Stands (shown idle : Outputs) : Type 0 where
   pub trigger-stands : shown .trigger ≡ idle .trigger
   pub missed-stands : shown .missed ≡ idle .missed
@@ -58,4 +61,4 @@ pub record Stands (shown idle : Outputs) : Type 0 where
 -- Proved in proofs/Shown.antt.
 pub record OutputsLaws : Type 0 where
   pub all-zero : (shown : Outputs) → ShowsNothing shown ↔ (shown ≡ noOutputs)
-  pub frame-stands : (verdict corrected word : ℕ) (shown : Outputs) → Stands (showingFrame verdict corrected word shown) shown
+  pub frame-stands : (verdict corrected place word : ℕ) (shown : Outputs) → Stands (showingFrame verdict corrected place word shown) shown

@@ -83,15 +83,17 @@ pub struct FreshAnswer {
     pub receiver: Receiver,
 }
 
-// What a clock shows: trigger output and missed flag, the bus, and the frame that it finished.
+// What a clock shows: trigger output and missed flag, the bus, and the frame that it finished. In this
+// order there is no padding.
 #[repr(C)]
 pub struct Outputs {
     pub trigger: u8,
     pub missed: u8,
-    pub strobe: u8,
     pub number: u16,
+    pub strobe: u8,
     pub verdict: u8,
     pub corrected: u8,
+    pub place: u8,
     pub word: u32,
 }
 
@@ -108,10 +110,11 @@ pub fn no_outputs() -> Outputs
     Outputs {
         trigger: 0,
         missed: 0,
-        strobe: 0,
         number: 0,
+        strobe: 0,
         verdict: 0,
         corrected: 0,
+        place: 0,
         word: 0,
     }
 }

@@ -57,7 +57,7 @@ use whole_frame::receive_by_format;
 use whole_frame::receive_frame;
 
 // TTCRX_VERSION of include/ttcrx.h.
-pub const VERSION: u32 = 3;
+pub const VERSION: u32 = 4;
 
 // What a block answers a caller who lends the receiver.
 #[repr(C)]

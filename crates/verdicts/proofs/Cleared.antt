@@ -14,7 +14,7 @@ use Rattle.frame.specs.declared.Fields.{Fields}
 use Rattle.frame.specs.declared.Judged.{Judged}
 use Rattle.frame.specs.declared.Answer.{Answer}
 use Rattle.frame.specs.Encode.{fieldsOf}
-use Rattle.frame.specs.Decode.{bareAnswer, goodAnswer, answerTo}
+use Rattle.frame.specs.Decode.{bareAnswer, answerTo}
 use Rattle.receiver_state.specs.declared.Counters.{Counters}
 use Rattle.receiver_state.specs.declared.Core.{Core}
 use Rattle.receiver_state.specs.declared.Clocked.{Clocked}
@@ -26,7 +26,7 @@ use Rattle.verdicts.specs.declared.Row.{Row}
 use Rattle.verdicts.specs.Table.{dropped, doubleUp, clearedBy, rowVerdict, rowEffect, row}
 use Rattle.verdicts.specs.Finished.{countErrors, shown, finished}
 use Rattle.verdicts.specs.FrameLaws.{CountersMove}
-use Rattle.verdicts.proofs.Rows.{not-dropped, by-row}
+use Rattle.verdicts.proofs.Rows.{not-dropped, Told, goodTold, by-row}
 
 -- the counters that a byte clears
 abbrev cleared : ℕ → Counters → Counters
@@ -64,26 +64,26 @@ kept-goes v frame core idle n e = record { stay = λ p q. e; broadcast = λ p. a
 reset-goes : (frame : Answer) (core : Core) (idle : Clocked) → Goes (idle .core .counters) (shown frame (row 3 core) (idle .outputs))
 reset-goes frame core idle = record { stay = λ p q. absurd (q refl); broadcast = λ p. absurd (omega arith) }
 
-long-goes : (flag word : ℕ) (idle : Clocked) (fields : Fields) (chosen : LongRow) → let frame = goodAnswer Long flag word in
+long-goes : (told : Told) (idle : Clocked) (fields : Fields) (chosen : LongRow) → let frame = goodTold Long told in
     Goes (idle .core .counters) (shown frame (row (rowVerdict chosen) (rowEffect chosen fields (countErrors frame (idle .core)))) (idle .outputs))
 unfolding countErrors
-long-goes flag word idle fields Foreign = kept-goes (rowVerdict Foreign) (goodAnswer Long flag word) (countErrors (goodAnswer Long flag word) (idle .core)) idle (λ p. omega arith) refl
-long-goes flag word idle fields Outside = kept-goes (rowVerdict Outside) (goodAnswer Long flag word) (countErrors (goodAnswer Long flag word) (idle .core)) idle (λ p. omega arith) refl
-long-goes flag word idle fields WithoutSetting = kept-goes (rowVerdict WithoutSetting) (goodAnswer Long flag word) (countErrors (goodAnswer Long flag word) (idle .core)) idle (λ p. omega arith) refl
-long-goes flag word idle fields Store = kept-goes (rowVerdict Store) (goodAnswer Long flag word) (storeByte (fields .sub) (fields .«data») (countErrors (goodAnswer Long flag word) (idle .core))) idle (λ p. omega arith) refl
-long-goes flag word idle fields Reset = reset-goes (goodAnswer Long flag word) (freshCore (idle .core .ids)) idle
-long-goes flag word idle fields Other = kept-goes (rowVerdict Other) (goodAnswer Long flag word) (countErrors (goodAnswer Long flag word) (idle .core)) idle (λ p. omega arith) refl
+long-goes told idle fields Foreign = kept-goes (rowVerdict Foreign) (goodTold Long told) (countErrors (goodTold Long told) (idle .core)) idle (λ p. omega arith) refl
+long-goes told idle fields Outside = kept-goes (rowVerdict Outside) (goodTold Long told) (countErrors (goodTold Long told) (idle .core)) idle (λ p. omega arith) refl
+long-goes told idle fields WithoutSetting = kept-goes (rowVerdict WithoutSetting) (goodTold Long told) (countErrors (goodTold Long told) (idle .core)) idle (λ p. omega arith) refl
+long-goes told idle fields Store = kept-goes (rowVerdict Store) (goodTold Long told) (storeByte (fields .sub) (fields .«data») (countErrors (goodTold Long told) (idle .core))) idle (λ p. omega arith) refl
+long-goes told idle fields Reset = reset-goes (goodTold Long told) (freshCore (idle .core .ids)) idle
+long-goes told idle fields Other = kept-goes (rowVerdict Other) (goodTold Long told) (countErrors (goodTold Long told) (idle .core)) idle (λ p. omega arith) refl
 
 finished-goes : (kind : Kind) (judged : Judged) (idle : Clocked) → Goes (idle .core .counters) (finished kind (answerTo kind judged) idle)
 unfolding finished countErrors doubleUp dropped oneOf
 finished-goes kind judged idle =
     by-row (λ kind frame (done : Row). Goes (idle .core .counters) (shown frame done (idle .outputs))) kind judged (idle .core)
     (λ v word d l. kept-goes v (bareAnswer 0 v word) (doubleUp (countErrors (bareAnswer 0 v word) (idle .core))) idle (not-dropped v 1 d refl) refl)
-    (λ flag word. record {
+    (λ told. record {
       stay = λ p q. absurd (p refl);
-      broadcast = λ p. cleared-counters (word % 2 ^ 8) (countErrors (goodAnswer Short flag word) (idle .core)) ∙ cleared-low word (idle .core .counters);
+      broadcast = λ p. cleared-counters (told .word % 2 ^ 8) (countErrors (goodTold Short told) (idle .core)) ∙ cleared-low (told .word) (idle .core .counters);
     })
-    (λ flag word chosen e. long-goes flag word idle (fieldsOf Long word) chosen)
+    (λ told chosen e. long-goes told idle (fieldsOf Long (told .word)) chosen)
 
 -- ---- by name
 

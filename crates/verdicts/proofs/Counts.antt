@@ -12,7 +12,7 @@ use Rattle.frame.specs.declared.Fields.{Fields}
 use Rattle.frame.specs.declared.Judged.{Judged}
 use Rattle.frame.specs.declared.Answer.{Answer}
 use Rattle.frame.specs.Encode.{fieldsOf}
-use Rattle.frame.specs.Decode.{bareAnswer, goodAnswer, answerTo}
+use Rattle.frame.specs.Decode.{bareAnswer, answerTo}
 use Rattle.receiver_state.specs.declared.Ids.{Ids}
 use Rattle.receiver_state.specs.declared.Errors.{Errors}
 use Rattle.receiver_state.specs.declared.Core.{Core}
@@ -25,7 +25,7 @@ use Rattle.verdicts.specs.declared.Row.{Row}
 use Rattle.verdicts.specs.Table.{dropped, upTo, doubleUp, rowVerdict, rowEffect, row}
 use Rattle.verdicts.specs.Finished.{countErrors, shown, finished}
 use Rattle.verdicts.specs.FrameLaws.{OneHigher, ErrorsMove}
-use Rattle.verdicts.proofs.Rows.{not-dropped, by-row, cleared-changes}
+use Rattle.verdicts.proofs.Rows.{not-dropped, Told, goodTold, by-row, cleared-changes}
 
 pub one-higher : (top n : ℕ) → OneHigher top n (upTo top n)
 unfolding upTo
@@ -68,18 +68,18 @@ reset-moves frame own idle =
     }
 
 -- all others leave the errors as they were counted
-other-moves : (v flag word : ℕ) (kind : Kind) (core : Core) (idle : Clocked) → dropped v ≡ false → v ≢ 3 → v ≢ 0
-    → core .errors ≡ countErrors (goodAnswer kind flag word) (idle .core) .errors
-    → Moves (idle .core .errors) (shown (goodAnswer kind flag word) (row v core) (idle .outputs))
+other-moves : (v : ℕ) (told : Told) (kind : Kind) (core : Core) (idle : Clocked) → dropped v ≡ false → v ≢ 3 → v ≢ 0
+    → core .errors ≡ countErrors (goodTold kind told) (idle .core) .errors
+    → Moves (idle .core .errors) (shown (goodTold kind told) (row v core) (idle .outputs))
 unfolding countErrors dropped oneOf
-other-moves v flag word kind core idle d t z e =
+other-moves v told kind core idle d t z e =
     record {
       double-up = λ p. absurd (true≢false (sym p ∙ d));
       single-up = λ p. rw (e, eq-eqb _ _ (p .0)) (one-higher 65535 (idle .core .errors .single));
       dropped-flag = λ p. absurd (true≢false (sym p ∙ d));
       reset = λ p. absurd (t p);
       double-stays = λ p q. ap (λ (x : Errors). x .double) e;
-      single-stays = λ p q. ap (λ (x : Errors). x .single) e ∙ rw (ne-eqb flag 1 (λ c. p (c, q))) refl;
+      single-stays = λ p q. ap (λ (x : Errors). x .single) e ∙ rw (ne-eqb (told .flag) 1 (λ c. p (c, q))) refl;
       status-cleared = λ p. absurd (true≢false (sym (ap dropped p) ∙ d));
       status-set = λ p q. ap (λ (x : Errors). x .status5) e;
       status-stays = λ p. absurd (z p);
@@ -87,22 +87,22 @@ other-moves v flag word kind core idle d t z e =
 
 -- ---- the table
 
-long-moves : (flag word : ℕ) (idle : Clocked) (fields : Fields) (chosen : LongRow) → let frame = goodAnswer Long flag word in
+long-moves : (told : Told) (idle : Clocked) (fields : Fields) (chosen : LongRow) → let frame = goodTold Long told in
     Moves (idle .core .errors) (shown frame (row (rowVerdict chosen) (rowEffect chosen fields (countErrors frame (idle .core)))) (idle .outputs))
 unfolding countErrors dropped oneOf
-long-moves flag word idle fields Foreign = other-moves (rowVerdict Foreign) flag word Long (countErrors (goodAnswer Long flag word) (idle .core)) idle refl (λ e. omega arith) (λ e. omega arith) refl
-long-moves flag word idle fields Outside = other-moves (rowVerdict Outside) flag word Long (countErrors (goodAnswer Long flag word) (idle .core)) idle refl (λ e. omega arith) (λ e. omega arith) refl
-long-moves flag word idle fields WithoutSetting = other-moves (rowVerdict WithoutSetting) flag word Long (countErrors (goodAnswer Long flag word) (idle .core)) idle refl (λ e. omega arith) (λ e. omega arith) refl
-long-moves flag word idle fields Store = other-moves (rowVerdict Store) flag word Long (storeByte (fields .sub) (fields .«data») (countErrors (goodAnswer Long flag word) (idle .core))) idle refl (λ e. omega arith) (λ e. omega arith) refl
-long-moves flag word idle fields Reset = reset-moves (goodAnswer Long flag word) (idle .core .ids) idle
-long-moves flag word idle fields Other = other-moves (rowVerdict Other) flag word Long (countErrors (goodAnswer Long flag word) (idle .core)) idle refl (λ e. omega arith) (λ e. omega arith) refl
+long-moves told idle fields Foreign = other-moves (rowVerdict Foreign) told Long (countErrors (goodTold Long told) (idle .core)) idle refl (λ e. omega arith) (λ e. omega arith) refl
+long-moves told idle fields Outside = other-moves (rowVerdict Outside) told Long (countErrors (goodTold Long told) (idle .core)) idle refl (λ e. omega arith) (λ e. omega arith) refl
+long-moves told idle fields WithoutSetting = other-moves (rowVerdict WithoutSetting) told Long (countErrors (goodTold Long told) (idle .core)) idle refl (λ e. omega arith) (λ e. omega arith) refl
+long-moves told idle fields Store = other-moves (rowVerdict Store) told Long (storeByte (fields .sub) (fields .«data») (countErrors (goodTold Long told) (idle .core))) idle refl (λ e. omega arith) (λ e. omega arith) refl
+long-moves told idle fields Reset = reset-moves (goodTold Long told) (idle .core .ids) idle
+long-moves told idle fields Other = other-moves (rowVerdict Other) told Long (countErrors (goodTold Long told) (idle .core)) idle refl (λ e. omega arith) (λ e. omega arith) refl
 
 pub finished-moves : (kind : Kind) (judged : Judged) (idle : Clocked) → Moves (idle .core .errors) (finished kind (answerTo kind judged) idle)
 unfolding finished dropped oneOf
 finished-moves kind judged idle =
     by-row (λ kind frame (done : Row). Moves (idle .core .errors) (shown frame done (idle .outputs))) kind judged (idle .core)
     (λ v word d l. dropped-moves v word idle d)
-    (λ flag word. cleared-changes (λ (core : Core). Moves (idle .core .errors) (shown (goodAnswer Short flag word) (row 1 core) (idle .outputs))) (word % 2 ^ 8) _
-    (other-moves 1 flag word Short (countErrors (goodAnswer Short flag word) (idle .core)) idle refl (λ e. omega arith) (λ e. omega arith) refl)
-    (λ new. other-moves 1 flag word Short (withCounters new (countErrors (goodAnswer Short flag word) (idle .core))) idle refl (λ e. omega arith) (λ e. omega arith) refl))
-    (λ flag word chosen e. long-moves flag word idle (fieldsOf Long word) chosen)
+    (λ told. cleared-changes (λ (core : Core). Moves (idle .core .errors) (shown (goodTold Short told) (row 1 core) (idle .outputs))) (told .word % 2 ^ 8) _
+    (other-moves 1 told Short (countErrors (goodTold Short told) (idle .core)) idle refl (λ e. omega arith) (λ e. omega arith) refl)
+    (λ new. other-moves 1 told Short (withCounters new (countErrors (goodTold Short told) (idle .core))) idle refl (λ e. omega arith) (λ e. omega arith) refl))
+    (λ told chosen e. long-moves told idle (fieldsOf Long (told .word)) chosen)

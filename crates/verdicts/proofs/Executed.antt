@@ -1,7 +1,7 @@
 -- Which finished frames are executed. Assumes nothing.
 use mathlib.Core.Path.{_≡_, refl, sym, ap, _∙_}
 use mathlib.Core.Logic.{_↔_, inl, inr, ⊎-elim}
-use mathlib.Core.Bool.{true, cond, false≢true}
+use mathlib.Core.Bool.{Bool, true, cond, false≢true}
 use mathlib.Core.List.{List}
 use Prim.Native.Nat.{ℕ}
 use native.Mathlib.Omega.{arith}
@@ -14,12 +14,13 @@ use Rattle.frame.specs.declared.Kind.the-variants.{Short, Long}
 use Rattle.frame.specs.declared.Fields.{Fields}
 use Rattle.frame.specs.declared.Encoded.{Encoded}
 use Rattle.frame.specs.declared.Judged.{Judged}
-use Rattle.frame.specs.declared.Judged.the-variants.{StopZero, Uncorrectable, FixedZero, Good}
+use Rattle.frame.specs.declared.Judged.the-variants.{StopZero, EvenSyndrome, OddSyndrome, FixedZero, Good}
 use Rattle.frame.specs.declared.Answer.{Answer}
 use Rattle.frame.specs.Numbers.{dataBits, checkBits, isFrame}
 use Rattle.frame.specs.Encode.{fieldsOf, encodeFields}
+use Rattle.frame.specs.Place.{placeIn}
 use Rattle.frame.specs.Decode.{judged, goodAnswer, answerTo, finishedAnswer, decodeFrame}
-use Rattle.frame.specs.Frames.{InRange, flipProtected, fieldsAnswer, FrameFacts}
+use Rattle.frame.specs.Frames.{InRange, flipProtected, fieldsAnswer, EncodingOf, FrameFacts}
 use Rattle.receiver_state.specs.declared.Core.{Core}
 use Rattle.receiver_state.specs.declared.Clocked.{Clocked}
 use Rattle.verdicts.specs.declared.LongRow.{LongRow}
@@ -57,7 +58,7 @@ good-executed Long fields core = long-executed fields (core .ids .id) (longRow f
 -- an encoded frame with no bit or one protected bit flipped decodes to its fields
 decodes : (columns : List ℕ) (kind : Kind) (fields : Fields) (wrong : WrongBit) → FrameFacts columns kind → InRange kind fields
     → NoneOrProtected (dataBits kind) (checkBits kind) wrong
-    → (flag : ℕ) × (decodeFrame columns kind (flipProtected kind wrong (encodeFields columns kind fields)) ≡ fieldsAnswer kind flag fields)
+    → (flag : ℕ) × (decodeFrame columns kind (flipProtected kind wrong (encodeFields columns kind fields)) ≡ fieldsAnswer kind flag (placeIn kind wrong) fields)
 decodes columns kind fields None f h p =
     (0, ap (λ (x : Encoded). decodeFrame columns kind (x .number)) (sym (f .encodes-in-range fields h)) ∙ f .round-trip fields h)
 decodes columns kind fields (Check j) f h p = (1, f .one-flip fields (Check j) h p)
@@ -67,17 +68,25 @@ module _ (columns : Kind → List ℕ) (facts : (kind : Kind) → FrameFacts (co
   abbrev ExecutedNow : Kind → Answer → Type 0
   ExecutedNow kind frame = executed (finished kind frame idle .outputs .verdict) ≡ true
 
+  -- a frame that is judged good was encoded, and at most one bit of it is wrong
+  pub good-encoding : (kind : Kind) (number : ℕ) → isFrame kind number ≡ true → (word : ℕ) (raised : Bool) (wrong : WrongBit)
+      → judged (columns kind) kind number ≡ Good word raised wrong
+      → (p : WrongBit) × EncodingOf (columns kind) kind number (cond raised 1 0) (placeIn kind wrong) word (fieldsOf kind word) p
+  unfolding finishedAnswer
+  good-encoding kind number h word raised wrong e =
+      facts kind .decoded-only-if number (cond raised 1 0) (placeIn kind wrong) word (fieldsOf kind word)
+      (finished-answer columns kind number h ∙ ap (answerTo kind) e)
+
   -- what is executed was so encoded
   only-if : (kind : Kind) (number : ℕ) → isFrame kind number ≡ true → (found : Judged) → judged (columns kind) kind number ≡ found
       → ExecutedNow kind (answerTo kind found) → ExecutedFrame columns kind number (idle .core .ids .id)
   unfolding finished countErrors tableRow executed oneOf finishedAnswer
   only-if kind number h StopZero e x = absurd (false≢true x)
-  only-if kind number h Uncorrectable e x = absurd (false≢true x)
+  only-if kind number h EvenSyndrome e x = absurd (false≢true x)
+  only-if kind number h OddSyndrome e x = absurd (false≢true x)
   only-if kind number h (FixedZero word) e x = absurd (false≢true x)
   only-if kind number h (Good word raised wrong) e x =
-      let d : decodeFrame (columns kind) kind number ≡ goodAnswer kind (cond raised 1 0) word =
-      finished-answer columns kind number h ∙ ap (answerTo kind) e in
-      let p = facts kind .decoded-only-if number (cond raised 1 0) word (fieldsOf kind word) d in
+      let p = good-encoding kind number h word raised wrong e in
       record {
         stop = p .1 .stop;
         fields = fieldsOf kind word;
@@ -85,7 +94,7 @@ module _ (columns : Kind → List ℕ) (facts : (kind : Kind) → FrameFacts (co
         wrong = p .0;
         none-or-protected = p .1 .bit;
         number-is = p .1 .number-is;
-        row-is = good-executed kind (fieldsOf kind word) (countErrors (goodAnswer kind (cond raised 1 0) word) (idle .core)) .0 x;
+        row-is = good-executed kind (fieldsOf kind word) (countErrors (goodAnswer kind (cond raised 1 0) (placeIn kind wrong) word) (idle .core)) .0 x;
       }
 
   -- and what was so encoded is executed
@@ -94,9 +103,9 @@ module _ (columns : Kind → List ℕ) (facts : (kind : Kind) → FrameFacts (co
   unfolding finished countErrors tableRow
   when kind number h x =
       let d = decodes (columns kind) kind (x .fields) (x .wrong) (facts kind) (x .in-range) (x .none-or-protected) in
-      let e : finishedAnswer columns kind number ≡ fieldsAnswer kind (d .0) (x .fields) =
+      let e : finishedAnswer columns kind number ≡ fieldsAnswer kind (d .0) (placeIn kind (x .wrong)) (x .fields) =
       sym (finished-answer columns kind number h) ∙ ap (decodeFrame (columns kind) kind) (x .number-is) ∙ d .1 in
-      rw e (good-executed kind (x .fields) (countErrors (fieldsAnswer kind (d .0) (x .fields)) (idle .core)) .1 (x .row-is))
+      rw e (good-executed kind (x .fields) (countErrors (fieldsAnswer kind (d .0) (placeIn kind (x .wrong)) (x .fields)) (idle .core)) .1 (x .row-is))
 
   pub executed-law : (kind : Kind) (number : ℕ) → isFrame kind number ≡ true
       → ExecutedNow kind (finishedAnswer columns kind number) ↔ ExecutedFrame columns kind number (idle .core .ids .id)

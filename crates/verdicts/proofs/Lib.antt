@@ -5,4 +5,5 @@ mod Stored
 mod Cleared
 mod Verdicts
 mod Executed
+pub mod Named
 pub mod Laws

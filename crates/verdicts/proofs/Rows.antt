@@ -1,7 +1,7 @@
 -- The rows of the table: which one is chosen, and what holds of each. Assumes nothing.
 use mathlib.Core.Path.{_≡_, refl, sym, ap, _∙_}
 use mathlib.Core.Logic.{_≢_, _⊎_, inl, inr, ⊎-elim}
-use mathlib.Core.Bool.{Bool, true, false, not, _&&_, true≢false}
+use mathlib.Core.Bool.{Bool, true, false, cond, not, _&&_, true≢false}
 use Prim.Native.Nat.{ℕ, _/_, _%_, _^_, _<_, _≤_}
 use native.Mathlib.Omega.{arith}
 use borrow.Author.Tests.{eq-eqb, eqb-true, eqb-false, ltb-true, ltb-false}
@@ -12,9 +12,10 @@ use Rattle.frame.specs.declared.Kind.{Kind}
 use Rattle.frame.specs.declared.Kind.the-variants.{Short, Long}
 use Rattle.frame.specs.declared.Fields.{Fields}
 use Rattle.frame.specs.declared.Judged.{Judged}
-use Rattle.frame.specs.declared.Judged.the-variants.{StopZero, Uncorrectable, FixedZero, Good}
+use Rattle.frame.specs.declared.Judged.the-variants.{StopZero, EvenSyndrome, OddSyndrome, FixedZero, Good}
 use Rattle.frame.specs.declared.Answer.{Answer}
 use Rattle.frame.specs.Encode.{fieldsOf}
+use Rattle.frame.specs.Place.{placeIn}
 use Rattle.frame.specs.Decode.{bareAnswer, goodAnswer, answerTo}
 use Rattle.receiver_state.specs.declared.Counters.{Counters}
 use Rattle.receiver_state.specs.declared.Core.{Core}
@@ -90,19 +91,29 @@ why fields id =
 
 -- ---- by cases
 
+-- what the answer to a good frame tells
+pub record Told : Type 0 where
+  pub flag : ℕ
+  pub place : ℕ
+  pub word : ℕ
+
+abbrev pub goodTold : Kind → Told → Answer
+goodTold kind told = goodAnswer kind (told .flag) (told .place) (told .word)
+
 -- what holds of a dropped frame, of a broadcast and of each row of a good long frame holds of every frame
 pub by-row : (P : Kind → Answer → Row → Type 0) (kind : Kind) (judged : Judged) (core : Core)
     → ((v word : ℕ) → dropped v ≡ true → v ≤ largestVerdict → P kind (bareAnswer 0 v word) (row v (doubleUp (countErrors (bareAnswer 0 v word) core))))
-    → ((flag word : ℕ) → P Short (goodAnswer Short flag word) (row 1 (clearedBy (word % 2 ^ 8) (countErrors (goodAnswer Short flag word) core))))
-    → ((flag word : ℕ) (chosen : LongRow) → longRow (fieldsOf Long word) (core .ids .id) ≡ chosen
-    → P Long (goodAnswer Long flag word) (row (rowVerdict chosen) (rowEffect chosen (fieldsOf Long word) (countErrors (goodAnswer Long flag word) core))))
+    → ((told : Told) → P Short (goodTold Short told) (row 1 (clearedBy (told .word % 2 ^ 8) (countErrors (goodTold Short told) core))))
+    → ((told : Told) (chosen : LongRow) → longRow (fieldsOf Long (told .word)) (core .ids .id) ≡ chosen
+    → P Long (goodTold Long told) (row (rowVerdict chosen) (rowEffect chosen (fieldsOf Long (told .word)) (countErrors (goodTold Long told) core))))
     → P kind (answerTo kind judged) (tableRow kind (answerTo kind judged) (countErrors (answerTo kind judged) core))
 unfolding tableRow countErrors dropped oneOf
 by-row P kind StopZero core lost short long = lost 7 0 refl (omega arith)
-by-row P kind Uncorrectable core lost short long = lost 8 0 refl (omega arith)
+by-row P kind EvenSyndrome core lost short long = lost 8 0 refl (omega arith)
+by-row P kind OddSyndrome core lost short long = lost 11 0 refl (omega arith)
 by-row P kind (FixedZero word) core lost short long = lost 9 word refl (omega arith)
-by-row P Short (Good word flag wrong) core lost short long = short _ word
-by-row P Long (Good word flag wrong) core lost short long = long _ word _ refl
+by-row P Short (Good word flag wrong) core lost short long = short (record { flag = cond flag 1 0; place = placeIn Short wrong; word = word })
+by-row P Long (Good word flag wrong) core lost short long = long (record { flag = cond flag 1 0; place = placeIn Long wrong; word = word }) _ refl
 
 -- what holds of a core, and with any counters changed, holds after a broadcast
 pub cleared-changes : (P : Core → Type 0) (byte : ℕ) (core : Core) → P core → ((new : Counters) → P (withCounters new core)) → P (clearedBy byte core)
@@ -142,7 +153,7 @@ unfolding countErrors doubleUp dropped oneOf
 row-facts kind judged core =
     by-row (λ kind frame. RowFacts core) kind judged core
     (λ v word d l. other core _ v (not-dropped v 0 d refl) (not-dropped v 3 d refl) l refl refl)
-    (λ flag word. cleared-changes (λ (new : Core). RowFacts core (row 1 new)) (word % 2 ^ 8) _
+    (λ told. cleared-changes (λ (new : Core). RowFacts core (row 1 new)) (told .word % 2 ^ 8) _
     (other core _ 1 (λ e. omega arith) (λ e. omega arith) (omega arith) refl refl)
     (λ new. other core _ 1 (λ e. omega arith) (λ e. omega arith) (omega arith) refl refl))
-    (λ flag word chosen e. long-facts core _ (fieldsOf Long word) chosen refl refl)
+    (λ told chosen e. long-facts core _ (fieldsOf Long (told .word)) chosen refl refl)

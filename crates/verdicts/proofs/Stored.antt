@@ -10,7 +10,7 @@ use Rattle.frame.specs.declared.Kind.the-variants.{Short, Long}
 use Rattle.frame.specs.declared.Judged.{Judged}
 use Rattle.frame.specs.declared.Answer.{Answer}
 use Rattle.frame.specs.Encode.{fieldsOf}
-use Rattle.frame.specs.Decode.{bareAnswer, goodAnswer, answerTo}
+use Rattle.frame.specs.Decode.{bareAnswer, answerTo}
 use Rattle.receiver_state.specs.declared.Settings.{Settings}
 use Rattle.receiver_state.specs.declared.Core.{Core}
 use Rattle.receiver_state.specs.declared.Clocked.{Clocked}
@@ -22,7 +22,7 @@ use Rattle.verdicts.specs.declared.Row.{Row}
 use Rattle.verdicts.specs.Table.{dropped, doubleUp, rowVerdict, rowEffect, row}
 use Rattle.verdicts.specs.Finished.{countErrors, shown, finished}
 use Rattle.verdicts.specs.FrameLaws.{registerOf, SettingsMove}
-use Rattle.verdicts.proofs.Rows.{not-dropped, Why, why, by-row, cleared-changes}
+use Rattle.verdicts.proofs.Rows.{not-dropped, Why, why, Told, goodTold, by-row, cleared-changes}
 
 abbrev Moves : Settings → Clocked → Type 0
 Moves before done = SettingsMove before (done .outputs) (done .core .settings)
@@ -62,13 +62,13 @@ kept-settings v frame core idle n e =
       settings-stay = λ p q. e;
     }
 
-stored-settings : (flag word : ℕ) (core : Core) (idle : Clocked) → core .settings ≡ idle .core .settings → word / 2 ^ 8 % 2 ^ 8 < 4
-    → Moves (idle .core .settings) (shown (goodAnswer Long flag word) (row 2 (storeByte (word / 2 ^ 8 % 2 ^ 8) (word % 2 ^ 8) core)) (idle .outputs))
-stored-settings flag word core idle e h =
+stored-settings : (told : Told) (core : Core) (idle : Clocked) → core .settings ≡ idle .core .settings → told .word / 2 ^ 8 % 2 ^ 8 < 4
+    → Moves (idle .core .settings) (shown (goodTold Long told) (row 2 (storeByte (told .word / 2 ^ 8 % 2 ^ 8) (told .word % 2 ^ 8) core)) (idle .outputs))
+stored-settings told core idle e h =
     rw e
     (record {
-      stored-byte = λ p. stored-at (word / 2 ^ 8 % 2 ^ 8) (word % 2 ^ 8) _ h;
-      others-stay = λ p number l n. stored-beside (word / 2 ^ 8 % 2 ^ 8) (word % 2 ^ 8) number _ l n;
+      stored-byte = λ p. stored-at (told .word / 2 ^ 8 % 2 ^ 8) (told .word % 2 ^ 8) _ h;
+      others-stay = λ p number l n. stored-beside (told .word / 2 ^ 8 % 2 ^ 8) (told .word % 2 ^ 8) number _ l n;
       config-stays = λ p. stored-config _ _ _;
       settings-stay = λ p q. absurd (p refl);
     })
@@ -82,22 +82,22 @@ reset-settings frame core idle =
       settings-stay = λ p q. absurd (q refl);
     }
 
-long-settings : (flag word id : ℕ) (idle : Clocked) (chosen : LongRow) → Why chosen (fieldsOf Long word) id → let frame = goodAnswer Long flag word in
-    Moves (idle .core .settings) (shown frame (row (rowVerdict chosen) (rowEffect chosen (fieldsOf Long word) (countErrors frame (idle .core)))) (idle .outputs))
+long-settings : (told : Told) (id : ℕ) (idle : Clocked) (chosen : LongRow) → Why chosen (fieldsOf Long (told .word)) id → let frame = goodTold Long told in
+    Moves (idle .core .settings) (shown frame (row (rowVerdict chosen) (rowEffect chosen (fieldsOf Long (told .word)) (countErrors frame (idle .core)))) (idle .outputs))
 unfolding countErrors
-long-settings flag word id idle Foreign w = kept-settings (rowVerdict Foreign) (goodAnswer Long flag word) (countErrors (goodAnswer Long flag word) (idle .core)) idle (λ e. omega arith) refl
-long-settings flag word id idle Outside w = kept-settings (rowVerdict Outside) (goodAnswer Long flag word) (countErrors (goodAnswer Long flag word) (idle .core)) idle (λ e. omega arith) refl
-long-settings flag word id idle WithoutSetting w = kept-settings (rowVerdict WithoutSetting) (goodAnswer Long flag word) (countErrors (goodAnswer Long flag word) (idle .core)) idle (λ e. omega arith) refl
-long-settings flag word id idle Store w = stored-settings flag word (countErrors (goodAnswer Long flag word) (idle .core)) idle refl (w .3)
-long-settings flag word id idle Reset w = reset-settings (goodAnswer Long flag word) (freshCore (idle .core .ids)) idle
-long-settings flag word id idle Other w = kept-settings (rowVerdict Other) (goodAnswer Long flag word) (countErrors (goodAnswer Long flag word) (idle .core)) idle (λ e. omega arith) refl
+long-settings told id idle Foreign w = kept-settings (rowVerdict Foreign) (goodTold Long told) (countErrors (goodTold Long told) (idle .core)) idle (λ e. omega arith) refl
+long-settings told id idle Outside w = kept-settings (rowVerdict Outside) (goodTold Long told) (countErrors (goodTold Long told) (idle .core)) idle (λ e. omega arith) refl
+long-settings told id idle WithoutSetting w = kept-settings (rowVerdict WithoutSetting) (goodTold Long told) (countErrors (goodTold Long told) (idle .core)) idle (λ e. omega arith) refl
+long-settings told id idle Store w = stored-settings told (countErrors (goodTold Long told) (idle .core)) idle refl (w .3)
+long-settings told id idle Reset w = reset-settings (goodTold Long told) (freshCore (idle .core .ids)) idle
+long-settings told id idle Other w = kept-settings (rowVerdict Other) (goodTold Long told) (countErrors (goodTold Long told) (idle .core)) idle (λ e. omega arith) refl
 
 pub finished-settings : (kind : Kind) (judged : Judged) (idle : Clocked) → Moves (idle .core .settings) (finished kind (answerTo kind judged) idle)
 unfolding finished countErrors doubleUp dropped oneOf
 finished-settings kind judged idle =
     by-row (λ kind frame (done : Row). Moves (idle .core .settings) (shown frame done (idle .outputs))) kind judged (idle .core)
     (λ v word d l. kept-settings v (bareAnswer 0 v word) (doubleUp (countErrors (bareAnswer 0 v word) (idle .core))) idle (not-dropped v 2 d refl) refl)
-    (λ flag word. cleared-changes (λ (core : Core). Moves (idle .core .settings) (shown (goodAnswer Short flag word) (row 1 core) (idle .outputs))) (word % 2 ^ 8) _
-    (kept-settings 1 (goodAnswer Short flag word) (countErrors (goodAnswer Short flag word) (idle .core)) idle (λ e. omega arith) refl)
-    (λ new. kept-settings 1 (goodAnswer Short flag word) (withCounters new (countErrors (goodAnswer Short flag word) (idle .core))) idle (λ e. omega arith) refl))
-    (λ flag word chosen e. long-settings flag word (idle .core .ids .id) idle chosen (rw e at (why (fieldsOf Long word) (idle .core .ids .id))))
+    (λ told. cleared-changes (λ (core : Core). Moves (idle .core .settings) (shown (goodTold Short told) (row 1 core) (idle .outputs))) (told .word % 2 ^ 8) _
+    (kept-settings 1 (goodTold Short told) (countErrors (goodTold Short told) (idle .core)) idle (λ e. omega arith) refl)
+    (λ new. kept-settings 1 (goodTold Short told) (withCounters new (countErrors (goodTold Short told) (idle .core))) idle (λ e. omega arith) refl))
+    (λ told chosen e. long-settings told (idle .core .ids .id) idle chosen (rw e at (why (fieldsOf Long (told .word)) (idle .core .ids .id))))

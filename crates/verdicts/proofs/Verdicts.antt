@@ -1,17 +1,18 @@
--- Verdict, flag and word of a finished frame. Assumes nothing.
+-- Verdict, flag, place and word of a finished frame. Assumes nothing.
 use mathlib.Core.Path.{_≡_, refl, sym, ap}
 use mathlib.Core.Logic.{_≢_, _↔_, ⊎-elim}
 use mathlib.Core.Bool.{true, true≢false}
 use mathlib.Core.List.{List}
-use Prim.Native.Nat.{ℕ}
+use Prim.Native.Nat.{ℕ, _%_}
 use native.Mathlib.Omega.{arith}
 use borrow.Author.Tests.{eq-eqb, eqb-true}
 use lib.Dec.{eqb}
 use Rattle.laws.specs.OneOf.{oneOf}
 use Rattle.laws.proofs.Rules.{picked, picked-by}
 use Rattle.hamming.specs.declared.Decoded.{Decoded}
-use Rattle.hamming.specs.declared.Decoded.the-variants.{Word, Uncorrectable as NoWord}
-use Rattle.hamming.specs.Correction.{decoded}
+use Rattle.hamming.specs.declared.Decoded.the-variants.{Word, Uncorrectable}
+use lib.Count.{ones}
+use Rattle.hamming.specs.Correction.{syndromeOf, decoded}
 use Rattle.frame.specs.declared.Kind.{Kind}
 use Rattle.frame.specs.declared.Kind.the-variants.{Short, Long}
 use Rattle.frame.specs.declared.Fields.{Fields}
@@ -106,16 +107,17 @@ no-row-dropped Other e = true≢false (sym e)
 -- ---- verdict 7
 
 -- a frame whose stop bit is 1 has another
-not-seven : (kind : Kind) (decoded : Decoded) (core : Core) → let frame = answerTo kind (judgedWord kind decoded) in
+abbrev NotSeven : Kind → Core → Judged → Type 0
+NotSeven kind core found = let frame = answerTo kind found in tableRow kind frame (countErrors frame core) .verdict ≢ 7
+
+not-seven : (kind : Kind) (s : ℕ) (decoded : Decoded) (core : Core) → let frame = answerTo kind (judgedWord kind s decoded) in
     tableRow kind frame (countErrors frame core) .verdict ≢ 7
 unfolding tableRow countErrors dropped oneOf
-not-seven kind NoWord core = λ e. let z : _≡_ {A = ℕ} 8 7 = e in omega arith
-not-seven kind (Word word flag wrong) core = picked Other (fixedZero kind word) nine (good kind)
+not-seven kind s Uncorrectable core =
+    picked (NotSeven kind core) (eqb (ones s % 2) 0) (λ e. let z : _≡_ {A = ℕ} 8 7 = e in omega arith) (λ e. let z : _≡_ {A = ℕ} 11 7 = e in omega arith)
+not-seven kind s (Word word flag wrong) core = picked (NotSeven kind core) (fixedZero kind word) nine (good kind)
   where
-    Other : Judged → Type 0
-    Other found = let frame = answerTo kind found in tableRow kind frame (countErrors frame core) .verdict ≢ 7
-
-    nine : Other (FixedZero word)
+    nine : NotSeven kind core (FixedZero word)
     nine e = let z : _≡_ {A = ℕ} 9 7 = e in omega arith
 
     good : (kind : Kind) → let frame = answerTo kind (Good word flag wrong) in tableRow kind frame (countErrors frame core) .verdict ≢ 7
@@ -128,7 +130,7 @@ unfolding finished finishedAnswer judged tableRow dropped oneOf
 seven-exactly columns kind number idle = (
   picked-by (λ found. shown-by found ≡ 7 → stopBit number ≡ 0) (eqb (stopBit number) 0)
       (λ t e. eqb-true (stopBit number) 0 t)
-      (λ t e. absurd (not-seven kind (decoded (columns kind) (received kind number)) (idle .core) e)),
+      (λ t e. absurd (not-seven kind (syndromeOf (columns kind) (received kind number)) (decoded (columns kind) (received kind number)) (idle .core) e)),
   λ z. rw (eq-eqb (stopBit number) 0 z) refl,
 )
   where
@@ -147,19 +149,22 @@ shows-frame kind judged idle =
       good = λ z. absurd (not-dropped v 0 d refl z);
       dropped-exactly = (λ e. not-dropped v 0 d refl, λ n. d);
       flag-shown = refl;
+      place-shown = refl;
       word-shown = refl;
     })
-    (λ flag word. record {
+    (λ told. record {
       not-good = λ n. absurd (n refl);
       good = λ z. refl;
       dropped-exactly = (λ e. absurd (true≢false (sym e)), λ n. absurd (n refl));
       flag-shown = refl;
+      place-shown = refl;
       word-shown = refl;
     })
-    (λ flag word chosen e. record {
+    (λ told chosen e. record {
       not-good = λ n. absurd (n refl);
-      good = λ z. long-verdict (fieldsOf Long word) (idle .core .ids .id) chosen (rw e at (why (fieldsOf Long word) (idle .core .ids .id)));
+      good = λ z. long-verdict (fieldsOf Long (told .word)) (idle .core .ids .id) chosen (rw e at (why (fieldsOf Long (told .word)) (idle .core .ids .id)));
       dropped-exactly = (λ d. absurd (no-row-dropped chosen d), λ n. absurd (n refl));
       flag-shown = refl;
+      place-shown = refl;
       word-shown = refl;
     })

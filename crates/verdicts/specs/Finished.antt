@@ -17,7 +17,7 @@ use Rattle.verdicts.specs.Table.{upTo, tableRow}
 
 -- "For verdicts 1 to 6 a corrected frame .. raises the single error counter; RESET then clears it": the counter goes up before the row's effect.
 -- Document 02, Q-4, of verdict 10: "corrected flag and single counter as for verdict 2".
--- For 7, 8 and 9 the flag is 0. The single error counter stops "at 65535".
+-- For 7, 8, 9 and 11 the flag is 0. The single error counter stops "at 65535".
 -- "Bit 5 is cleared by verdict 7 and set by any other finished frame."
 unfoldable pub countErrors : Answer → Core → Core
 countErrors frame core =
@@ -28,10 +28,11 @@ countErrors frame core =
     (cond (eqb (frame .verdict) 7) 0 1))
     core
 
--- "the outputs of this clock stand": a finished frame adds its verdict, corrected flag and word to those of steps 1 and 2.
--- "a corrected frame sets the corrected flag"; "The word shown is 0 for verdicts 0, 7 and 8, else the corrected data": as the decoder answers them
+-- "the outputs of this clock stand": a finished frame adds its verdict, corrected flag, place and word to those of steps 1 and 2.
+-- "a corrected frame sets the corrected flag"; "The word shown is 0 for verdicts 0, 7 and 8, else the corrected data"; document 02, Q-8: "A corrected frame
+-- also reports the flipped bit": as the decoder answers them
 abbrev pub shown : Answer → Row → Outputs → Clocked
-shown frame done idle = record { core = done .core; outputs = showingFrame (done .verdict) (frame .corrected) (frame .word) idle }
+shown frame done idle = record { core = done .core; outputs = showingFrame (done .verdict) (frame .corrected) (frame .place) (frame .word) idle }
 
 unfoldable pub finished : Kind → Answer → Clocked → Clocked
 finished kind frame idle = shown frame (tableRow kind frame (countErrors frame (idle .core))) (idle .outputs)

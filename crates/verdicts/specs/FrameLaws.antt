@@ -1,4 +1,4 @@
--- Document 01, "Fate of a finished frame", with document 02, Q-4, as facts of what a clock shows and leaves: the words of Laws.antt, here and in the crate `receiver`.
+-- Document 01, "Fate of a finished frame", with document 02, Q-4 and Q-8, as facts of what a clock shows and leaves: the words of Laws.antt, here and in the crate `receiver`.
 use Prim.Native.Nat.{ℕ, _+_, _/_, _%_, _^_, _<_, _≤_}
 use mathlib.Core.Path.{_≡_}
 use mathlib.Core.Logic.{_≢_, _⊎_, _↔_}
@@ -12,7 +12,8 @@ use Rattle.frame.specs.declared.Kind.the-variants.{Short, Long}
 use Rattle.frame.specs.declared.Fields.{Fields}
 use Rattle.frame.specs.declared.Answer.{Answer}
 use Rattle.frame.specs.Numbers.{dataBits, checkBits, stopBit}
-use Rattle.frame.specs.Encode.{encodeFields}
+use Rattle.frame.specs.Encode.{wordOf, encodeFields}
+use Rattle.frame.specs.Place.{places, flipAt}
 use Rattle.frame.specs.Frames.{InRange, flipProtected}
 use Rattle.receiver_state.specs.declared.Settings.{Settings}
 use Rattle.receiver_state.specs.declared.Errors.{Errors}
@@ -21,7 +22,7 @@ use Rattle.receiver_state.specs.declared.Outputs.{Outputs}
 use Rattle.register_map.specs.Laws.{ByteWithoutSetting}
 use Rattle.verdicts.specs.Table.{dropped}
 
--- ---- verdict, flag and word
+-- ---- verdict, flag, place and word
 
 -- "address neither 0 nor this ID" does not hold
 abbrev pub Ours : Fields → ℕ → Type 0
@@ -44,14 +45,32 @@ abbrev pub GoodVerdict : Kind → Fields → ℕ → ℕ → Type 0
 GoodVerdict Short fields id verdict = verdict ≡ 1
 GoodVerdict Long fields id verdict = LongVerdict fields id verdict
 
--- what a finished frame shows, by what decoding its number answers: 7, 8 or 9; or 0 and the fields
+-- what a finished frame shows, by what decoding its number answers: 7, 8, 9 or 11; or 0 and the fields
 pub record ShowsFrame (kind : Kind) (decoded : Answer) (id : ℕ) (shown : Outputs) : Type 0 where
   pub not-good : decoded .verdict ≢ 0 → shown .verdict ≡ decoded .verdict
   pub good : decoded .verdict ≡ 0 → GoodVerdict kind (decoded .fields) id (shown .verdict)
   -- dropped are those that decoding gives a verdict, and no others
   pub dropped-exactly : (dropped (shown .verdict) ≡ true) ↔ (decoded .verdict ≢ 0)
   pub flag-shown : shown .corrected ≡ decoded .corrected
+  pub place-shown : shown .place ≡ decoded .place
   pub word-shown : shown .word ≡ decoded .word
+
+-- ---- the corrected bit
+
+-- the number with the bit at that place flipped is a properly encoded frame, and this is its word
+pub record CleanAt (columns : Kind → List ℕ) (kind : Kind) (number place word : ℕ) : Type 0 where
+  pub fields : Fields
+  pub in-range : InRange kind fields
+  pub clean-is : flipAt kind place number ≡ encodeFields (columns kind) kind fields
+  pub word-is : word ≡ wordOf kind fields
+
+-- document 02, Q-8: "A corrected frame also reports the flipped bit: 1 to 39 counts the frame's bits after the format bit, in the order sent; it is 0
+-- where the flag is 0." (The order sent: `InOrderSent` of the crate `frame`.)
+pub record BitNamed (columns : Kind → List ℕ) (kind : Kind) (number : ℕ) (shown : Outputs) : Type 0 where
+  pub no-place : shown .corrected ≡ 0 → shown .place ≡ 0
+  pub first : shown .corrected ≢ 0 → 1 ≤ shown .place
+  pub last : shown .place ≤ places kind
+  pub clean : shown .corrected ≢ 0 → CleanAt columns kind number (shown .place) (shown .word)
 
 -- ---- the error counters
 
@@ -69,7 +88,7 @@ SingleError shown = (shown .corrected ≡ 1) × (shown .verdict ≢ 3)
 pub record ErrorsMove (before : Errors) (shown : Outputs) (after : Errors) : Type 0 where
   pub double-up : dropped (shown .verdict) ≡ true → OneHigher 255 (before .double) (after .double)
   pub single-up : SingleError shown → OneHigher 65535 (before .single) (after .single)
-  -- "For 0, 7, 8 and 9 the flag is 0": a dropped frame has no single error
+  -- "For 0, 7, 8 and 9 the flag is 0", and for 11: a dropped frame has no single error
   pub dropped-flag : dropped (shown .verdict) ≡ true → shown .corrected ≡ 0
   pub reset : shown .verdict ≡ 3 → (after .double ≡ 0) × (after .single ≡ 0)
   pub double-stays : dropped (shown .verdict) ≡ false → shown .verdict ≢ 3 → after .double ≡ before .double

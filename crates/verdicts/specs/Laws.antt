@@ -1,4 +1,4 @@
--- Document 01, "Fate of a finished frame": what holds of every finished frame, over the columns of each kind. Proved in proofs/Laws.antt.
+-- Document 01, "Fate of a finished frame", with document 02, Q-4 and Q-8: what holds of every finished frame, over the columns of each kind. Proved in proofs/Laws.antt.
 use Prim.Native.Nat.{ℕ, _≤_}
 use mathlib.Core.Path.{_≡_}
 use mathlib.Core.Logic.{_≢_, _↔_}
@@ -14,7 +14,7 @@ use Rattle.receiver_state.specs.Shown.{Stands}
 use Rattle.receiver_state.specs.WellFormed.{CoreFacts}
 use Rattle.verdicts.specs.Table.{executed, largestVerdict}
 use Rattle.verdicts.specs.Finished.{finishedBy}
-use Rattle.verdicts.specs.FrameLaws.{ShowsFrame, ErrorsMove, SettingsMove, CountersMove, ExecutedFrame}
+use Rattle.verdicts.specs.FrameLaws.{ShowsFrame, BitNamed, ErrorsMove, SettingsMove, CountersMove, ExecutedFrame}
 
 pub record VerdictLaws (columns : Kind → List ℕ) : Type 0 where
   pub stays-well-formed : (kind : Kind) (number : ℕ) (idle : Clocked) → CoreFacts (idle .core) → CoreFacts (finishedBy columns kind number idle .core)
@@ -22,9 +22,12 @@ pub record VerdictLaws (columns : Kind → List ℕ) : Type 0 where
   pub not-larger : (kind : Kind) (number : ℕ) (idle : Clocked) → finishedBy columns kind number idle .outputs .verdict ≤ largestVerdict
   -- 7, "stop bit is 0"
   pub seven-exactly : (kind : Kind) (number : ℕ) (idle : Clocked) → (finishedBy columns kind number idle .outputs .verdict ≡ 7) ↔ (stopBit number ≡ 0)
-  -- of a number that is such a frame, the verdict is that of its row, and flag and word are as decoding without a receiver answers them
+  -- of a number that is such a frame, the verdict is that of its row, and flag, place and word are as decoding without a receiver answers them
   pub shows-frame : (kind : Kind) (number : ℕ) (idle : Clocked) → isFrame kind number ≡ true
       → ShowsFrame kind (decodeFrame (columns kind) kind number) (idle .core .ids .id) (finishedBy columns kind number idle .outputs)
+  -- and the place names the bit that was corrected
+  pub bit-named : (kind : Kind) (number : ℕ) (idle : Clocked) → isFrame kind number ≡ true
+      → BitNamed columns kind number (finishedBy columns kind number idle .outputs)
   pub outputs-stand : (kind : Kind) (number : ℕ) (idle : Clocked) → Stands (finishedBy columns kind number idle .outputs) (idle .outputs)
   pub errors-move : (kind : Kind) (number : ℕ) (idle : Clocked) → let done = finishedBy columns kind number idle in
       ErrorsMove (idle .core .errors) (done .outputs) (done .core .errors)

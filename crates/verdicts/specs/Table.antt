@@ -1,4 +1,4 @@
--- Document 01, "Fate of a finished frame", with document 02, Q-4: the table of verdicts. A row is the verdict, and the core after the effect.
+-- Document 01, "Fate of a finished frame", with document 02, Q-4 and Q-8: the table of verdicts. A row is the verdict, and the core after the effect.
 -- `LongRow` and `Row` are an enum and a struct of src/lib.rt.
 use Prim.Native.Nat.{ℕ, _+_, _/_, _%_}
 use mathlib.Core.Bool.{Bool, cond, not, _&&_}
@@ -23,13 +23,13 @@ use Rattle.verdicts.specs.declared.Row.{Row}
 unfoldable pub executed : ℕ → Bool
 executed verdict = oneOf (1 ∷ 2 ∷ 3 ∷ 4 ∷ []) verdict
 
--- the verdicts whose effect is "double error counter up": the frame is dropped
+-- the verdicts whose effect is "double error counter up": the frame is dropped. Document 02, Q-8, of 8 and 11: "Both raise the double counter"
 unfoldable pub dropped : ℕ → Bool
-dropped verdict = oneOf (7 ∷ 8 ∷ 9 ∷ []) verdict
+dropped verdict = oneOf (7 ∷ 8 ∷ 9 ∷ 11 ∷ []) verdict
 
 -- no verdict is larger (`not-larger` of `VerdictLaws`)
 abbrev pub largestVerdict : ℕ
-largestVerdict = 10
+largestVerdict = 11
 
 -- ---- effects
 
@@ -97,7 +97,7 @@ abbrev pub goodRow : Kind → Fields → Core → Row
 goodRow Short fields core = row 1 (clearedBy (fields .«data») core)
 goodRow Long fields core = let chosen = longRow fields (core .ids .id) in row (rowVerdict chosen) (rowEffect chosen fields core)
 
--- 7, 8 and 9 come first: `judged` of the crate `frame` tested them in this order, and they come here as the verdict of its answer. Each has the
+-- 7, 8, 11 and 9 come first: `judged` of the crate `frame` tested them in this order, and they come here as the verdict of its answer. Each has the
 -- effect "double error counter up".
 unfoldable pub tableRow : Kind → Answer → Core → Row
 tableRow kind frame core = cond (eqb (frame .verdict) 0) (goodRow kind (frame .fields) core) (row (frame .verdict) (doubleUp core))

@@ -1,4 +1,4 @@
-// Document 01, "Fate of a finished frame", with document 02, Q-4: the table of verdicts, as a change of
+// Document 01, "Fate of a finished frame", with document 02, Q-4 and Q-8: the table of verdicts, as a change of
 // what steps 1 and 2 of the same clock leave and show. Every function takes any decoded frame and any core.
 //
 // The core and the outputs go by value, like the state that they belong to.
@@ -194,6 +194,7 @@ pub fn finish(kind: Kind, frame: Answer, idle: Clocked) -> Clocked
     let mut outputs = idle.outputs;
     outputs.verdict = done.verdict;
     outputs.corrected = frame.corrected;
+    outputs.place = frame.place;
     outputs.word = frame.word;
     Clocked { core, outputs }
 }
