@@ -78,9 +78,10 @@ uint32_t ttcrx_version(void);
  * so does a write to their registers.
  *
  * 8 and 11 are the frames that cannot be corrected. The syndrome is the received check number xor that
- * of the received word. With 8 the number of ones in it is even and not 0: an even number of protected
- * bits was wrong, two or more. With 11 it is odd, and the syndrome belongs to no bit: an odd number was
- * wrong, three or more. Two wrong bits always give 8. Four may give 8 too, or look like a good frame.
+ * of the received word. With 8 the number of ones in it is even and not 0; with 11 it is odd, and the
+ * syndrome belongs to no bit. If a frame was sent, and only protected bits were wrong, 8 means an even
+ * number of them, two or more, and 11 an odd number, three or more. Two wrong bits always give 8. Three
+ * may also look like one, which is then taken for corrected, and four like two or like none.
  *
  * After a finished frame with any other verdict than 7 the receiver waits for a start bit, and the next
  * bit may be one. After verdict 7 it wants 41 ones in a row on channel B first: a 0 among them is no

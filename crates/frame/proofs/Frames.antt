@@ -96,10 +96,10 @@ answer-fixed kind word flag p z = rw z
 
 -- and one that can't be corrected, by the number of ones in the syndrome
 answer-even : (kind : Kind) (s : ℕ) (d : Decoded) → d ≡ Uncorrectable → ones s % 2 ≡ 0 → answerBy kind s d ≡ bareAnswer 0 8 0
-answer-even kind s d e even = rw (e, eq-eqb (ones s % 2) 0 even)
+answer-even kind s d e even = rw (e, even)
 
-answer-odd : (kind : Kind) (s : ℕ) (d : Decoded) → d ≡ Uncorrectable → (ones s % 2 ≡ 0 → ⊥) → answerBy kind s d ≡ bareAnswer 0 11 0
-answer-odd kind s d e odd = rw (e, ne-eqb (ones s % 2) 0 odd)
+answer-odd : (kind : Kind) (s : ℕ) (d : Decoded) → d ≡ Uncorrectable → ones s % 2 ≡ 1 → answerBy kind s d ≡ bareAnswer 0 11 0
+answer-odd kind s d e odd = rw (e, odd)
 
 decode-refused : (columns : List ℕ) (kind : Kind) (number : ℕ) → isFrame kind number ≡ false → decodeFrame columns kind number ≡ bareAnswer 12 0 0
 unfolding decodeFrame
@@ -205,21 +205,19 @@ not-good kind word flag p verdict h k = by-fixed (fixedZero kind word)
     by-fixed false e = h e
 
 -- 8 is answered only with an even number of ones in the syndrome, and 11 only with an odd one
+by-low : {P : Type 0} (n : ℕ) → (n % 2 ≡ 0 → P) → (n % 2 ≡ 1 → P) → P
+by-low n even odd = by-test (eqb (n % 2) 0) (λ t. even (eqb-true (n % 2) 0 t)) (λ t. odd (not-zero n (eqb-false (n % 2) 0 t)))
+
+eleven-not-8 : _≡_ {A = ℕ} 11 8 → ⊥
+eleven-not-8 e = omega arith
+
 only-even : (kind : Kind) (s : ℕ) (d : Decoded) → answerBy kind s d .verdict ≡ 8 → ones s % 2 ≡ 0
 only-even kind s (Word word flag p) e = absurd (not-good kind word flag p 8 (λ z. omega arith) (λ z. omega arith) e)
-only-even kind s Uncorrectable e = by-ones (eqb (ones s % 2) 0) refl e
-  where
-    by-ones : (even : Bool) → eqb (ones s % 2) 0 ≡ even → answerTo kind (cond even EvenSyndrome OddSyndrome) .verdict ≡ 8 → ones s % 2 ≡ 0
-    by-ones true t e = eqb-true (ones s % 2) 0 t
-    by-ones false t e = absurd (let z : _≡_ {A = ℕ} 11 8 = e in omega arith)
+only-even kind s Uncorrectable e = by-low (ones s) (λ even. even) (λ odd. absurd (eleven-not-8 (rw odd at e)))
 
 only-odd : (kind : Kind) (s : ℕ) (d : Decoded) → answerBy kind s d .verdict ≡ 11 → ones s % 2 ≡ 1
 only-odd kind s (Word word flag p) e = absurd (not-good kind word flag p 11 (λ z. omega arith) (λ z. omega arith) e)
-only-odd kind s Uncorrectable e = by-ones (eqb (ones s % 2) 0) refl e
-  where
-    by-ones : (even : Bool) → eqb (ones s % 2) 0 ≡ even → answerTo kind (cond even EvenSyndrome OddSyndrome) .verdict ≡ 11 → ones s % 2 ≡ 1
-    by-ones true t e = absurd (let z : _≡_ {A = ℕ} 8 11 = e in omega arith)
-    by-ones false t e = not-zero (ones s) (eqb-false (ones s % 2) 0 t)
+only-odd kind s Uncorrectable e = by-low (ones s) (λ even. absurd (eleven-not-8 (sym (rw even at e)))) (λ odd. odd)
 
 -- so the verdict tells an odd number of flips from an even one, if the syndrome's ones do
 flips-show : (kind : Kind) (s : ℕ) (d : Decoded) (count verdict : ℕ) → ones s % 2 ≡ count % 2 → verdict ≡ answerBy kind s d .verdict
@@ -476,7 +474,7 @@ frame-theorem columns kind len good = record {
       );
       eleven = (
         λ e. (none-near 11 (λ z. omega arith) (λ z. omega arith) e, only-odd kind syndrome word-decoded (verdict-of e)),
-        λ n. decodes ∙ answer-odd kind syndrome word-decoded (no-word (n .0) word-decoded refl) (not-even (n .1)),
+        λ n. decodes ∙ answer-odd kind syndrome word-decoded (no-word (n .0) word-decoded refl) (n .1),
       );
     }
       where
@@ -500,9 +498,6 @@ frame-theorem columns kind len good = record {
         none-near verdict m k e word p h b n =
             not-good kind word (flagOf p) p verdict m k
             (ap (λ (x : Answer). x .verdict) (sym (decode-within word p h b) ∙ ap (decodeFrame columns kind) (sym n) ∙ e))
-
-        not-even : {n : ℕ} → n ≡ 1 → n ≡ 0 → ⊥
-        not-even o z = omega arith
 
         no-word : Frames.NoneNear columns kind number → (d : Decoded) → decoded columns (received kind number) ≡ d → d ≡ Uncorrectable
         no-word none Uncorrectable e = refl

@@ -27,15 +27,15 @@ module _ (n w : ℕ) where
   unfolding bitAt
   bit-back None h = refl
   bit-back (Check j) h =
-      let some : n + w - j ≡ 0 → ⊥ = λ e. omega arith in
-      let after : n < n + w - j = omega arith in
-      let back : n + w - (n + w - j) ≡ j = omega arith in
-      rw (ne-eqb (n + w - j) 0 some, lt-ltb n (n + w - j) after) (ap Check back)
+      let place = placeOf n w (Check j) in
+      let some : place ≡ 0 → ⊥ = λ e. omega arith in
+      let after : n < place = omega arith in
+      rw (ne-eqb place 0 some, lt-ltb n place after) (ap Check (omega arith))
   bit-back (Data i) h =
-      let some : n - i ≡ 0 → ⊥ = λ e. omega arith in
-      let before : n - i ≤ n = omega arith in
-      let back : n - (n - i) ≡ i = omega arith in
-      rw (ne-eqb (n - i) 0 some, le-ltb n (n - i) before) (ap Data back)
+      let place = placeOf n w (Data i) in
+      let some : place ≡ 0 → ⊥ = λ e. omega arith in
+      let before : place ≤ n = omega arith in
+      rw (ne-eqb place 0 some, le-ltb n place before) (ap Data (omega arith))
 
   zero-exactly : (p : WrongBit) → NoneOrProtected n w p → (placeOf n w p ≡ 0) ↔ (flagOf p ≡ false)
   zero-exactly None h = (λ e. refl, λ e. refl)
