@@ -332,28 +332,26 @@ pub fn decode_finished(short: &[u8], long: &[u8], kind: Kind, number: u64) -> An
     }
 }
 
-// What a frame number says, over these columns.
-fn decode_frame(columns: &[u8], kind: Kind, number: u64) -> Answer
-    ensures { λ r. ⌜ r ≡ decodeFrame (inUse (now (columns .entry))) kind number ⌝ }
-{
-    if !is_frame(kind, number) {
-        return bare_answer(12, 0, 0);
-    }
-    answer_to(kind, judge(columns, kind, number))
-}
-
-// What a number says as a short frame.
+// What a number says as a short frame. The decoders share no function beyond `judge` and `answer_to`:
+// with the test in one for both kinds, the compiler makes a call of it, and decoding takes twice the
+// time.
 pub fn decode_short(number: u64) -> Answer
     ensures { λ r. ⌜ r ≡ decodeFrame shortColumns Short number ⌝ }
 {
+    if !is_frame(Kind::Short, number) {
+        return bare_answer(12, 0, 0);
+    }
     let table = column_table();
-    decode_frame(&table[..8], Kind::Short, number)
+    answer_to(Kind::Short, judge(&table[..8], Kind::Short, number))
 }
 
 // What a number says as a long frame.
 pub fn decode_long(number: u64) -> Answer
     ensures { λ r. ⌜ r ≡ decodeFrame longColumns Long number ⌝ }
 {
+    if !is_frame(Kind::Long, number) {
+        return bare_answer(12, 0, 0);
+    }
     let table = column_table();
-    decode_frame(&table, Kind::Long, number)
+    answer_to(Kind::Long, judge(&table, Kind::Long, number))
 }

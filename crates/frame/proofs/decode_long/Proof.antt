@@ -1,21 +1,48 @@
--- `frame::decode_long` meets its contract: the columns lent are the table. Assumes nothing.
+-- `frame::decode_long` meets its contract: by the test of refusal 12; the columns lent are the whole table. Assumes nothing.
 use borrow.Author.Needs.{needs}
+use Rattle.laws.proofs.Rules.{denied, granted}
+use Rattle.frame.specs.Decode.{decodeFrame}
 use Rattle.frame.proofs.decode_long.Statement.{statement}
 use Rattle.frame.proofs.decode_long.Tie as tie
+
+is-frame-requires : tie.Need-is-frame-requires
+is-frame-requires c κs = search needs
+
+bare-answer-requires : tie.Need-bare-answer-requires
+bare-answer-requires c κs = search needs
+
+returns : tie.Need-returns
+unfolding decodeFrame
+returns c = rw (denied _ _ (c .before .before .is-frame .ensures) (c .before .if1 .taken)) (c .bare-answer .ensures)
 
 column-table-requires : tie.Need-column-table-requires
 column-table-requires c κs = search needs
 
-slice-aggregate-decode-frame : tie.Need-slice-aggregate-decode-frame
-slice-aggregate-decode-frame c = search needs
+slice-aggregate-judge : tie.Need-slice-aggregate-judge
+slice-aggregate-judge c = search needs
 
-decode-frame-requires : tie.Need-decode-frame-requires
-decode-frame-requires c κs = search needs
+judge-requires : tie.Need-judge-requires
+judge-requires c κs = search needs
 
-returns : tie.Need-returns
-returns c = rw (c .decode-frame .ensures, c .before .before .column-table .ensures)
+answer-to-requires : tie.Need-answer-to-requires
+answer-to-requires c κs = search needs
+
+returns-2 : tie.Need-returns-2
+unfolding decodeFrame
+returns-2 c =
+    let table = c .before .before .before in
+    let test = table .before in
+    rw (granted _ _ (test .before .is-frame .ensures) (test .if1 .left), c .answer-to .ensures, c .before .judge .ensures, table .column-table .ensures)
 
 pub decode-long-spec : {M : Type 1} → statement M
 decode-long-spec =
     tie.close
-    (tie.spec column-table-requires slice-aggregate-decode-frame decode-frame-requires returns)
+    (tie.spec
+    is-frame-requires
+    bare-answer-requires
+    returns
+    column-table-requires
+    slice-aggregate-judge
+    judge-requires
+    answer-to-requires
+    returns-2)
