@@ -152,6 +152,27 @@ static void check_delays_in_blocks(void)
     CHECK(receiver.core.errors.single_errors == 1 && held_is(receiver, 0, 0, 0));
 }
 
+/* Frames that cannot be corrected, of which the second has a trigger on its last clock; then one wrong
+   bit, of which a record has no place. */
+static void check_storms_in_blocks(void)
+{
+    ttcrx_receiver receiver = fresh_5;
+    put_frame(block, 16, STORM_SHORT);
+    put_frame(block + 16, 42, STORM_LONG);
+    put_frame(block + 58, 16, TWO_FLIPS);
+    put_frame(block + 74, 42, WRITE_35 ^ 2);
+    block[57] |= 1;
+    unwrite();
+    CHECK(outcome_is(run(&receiver, 116), TTCRX_ACCEPTED, 4));
+    CHECK(record_is(&records[0], 15, 15, 0, TTCRX_VERDICT_ODD_SYNDROME, 0));
+    CHECK(record_is(&records[1], 57, 57, 0, TTCRX_VERDICT_ODD_SYNDROME | TTCRX_CODE_TRIGGER, 0));
+    CHECK(record_is(&records[2], 73, 73, 1, TTCRX_VERDICT_EVEN_SYNDROME, 0));
+    CHECK(record_is(&records[3], 115, 115, 1, TTCRX_VERDICT_STORED | TTCRX_CODE_CORRECTED,
+                    WRITE_35_WORD));
+    CHECK(only_records(4) && held_is(receiver, 0, 0, 0));
+    CHECK(receiver.core.errors.single_errors == 1 && receiver.core.errors.double_errors == 3);
+}
+
 /* The longest block, with a record for every clock. */
 static void check_full_block(void)
 {
@@ -229,6 +250,7 @@ static void check_blocks(void)
     check_frames_in_blocks();
     check_ones_in_blocks();
     check_delays_in_blocks();
+    check_storms_in_blocks();
     check_full_block();
     check_refused_blocks();
     check_empty_blocks();

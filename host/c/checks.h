@@ -27,8 +27,9 @@ static void check(int holds, const char *what, const char *file, int line)
 
 #define CHECK(holds) check((holds), #holds, __FILE__, __LINE__)
 
-/* Frames of document 01: data 35 for register 2 of ID 5, and RESET of ID 5; the broadcast of 01, and
-   the same with stop bit 0. Data F3, which belong to no fine delay setting, for register 0 of ID 5. */
+/* Frames of document 01: data 35 for register 2 of ID 5, and RESET of ID 5; the broadcast of 01, the
+   same with stop bit 0, and with two wrong bits; frames with an odd syndrome that belongs to no bit.
+   Data F3, which belong to no fine delay setting, for register 0 of ID 5. */
 #define WRITE_35 UINT64_C(0x100150235AD)
 #define WRITE_35_WORD 0x00150235
 #define RESET_5 UINT64_C(0x100150600F3)
@@ -37,6 +38,9 @@ static void check(int holds, const char *what, const char *file, int line)
 #define DELAY_F3_WORD 0x001500F3
 #define BROADCAST_01 0x004F
 #define BAD_STOP 0x004E
+#define TWO_FLIPS 0x304F
+#define STORM_SHORT 0x0039
+#define STORM_LONG UINT64_C(0x1FFFFFFFFFF)
 
 /* So many ones as a number: the ones that a receiver wants after a bad stop bit, and one fewer. */
 #define ONES_41 UINT64_C(0x1FFFFFFFFFF)
@@ -111,15 +115,17 @@ static int bus_is(ttcrx_outputs outputs, uint8_t trigger, uint8_t missed, uint8_
            outputs.number == number;
 }
 
-static int fate_is(ttcrx_outputs outputs, uint8_t verdict, uint8_t corrected, uint32_t word)
+/* The corrected flag is 0 if and only if the place is. */
+static int fate_is(ttcrx_outputs outputs, uint8_t verdict, uint8_t place, uint32_t word)
 {
-    return outputs.verdict == verdict && outputs.corrected == corrected && outputs.word == word;
+    return outputs.verdict == verdict && outputs.corrected == (place != 0) &&
+           outputs.place == place && outputs.word == word;
 }
 
 /* An accepted clock without trigger and sequence, with this on the frame. */
-static int received(ttcrx_clock_answer answer, uint8_t verdict, uint8_t corrected, uint32_t word)
+static int received(ttcrx_clock_answer answer, uint8_t verdict, uint8_t place, uint32_t word)
 {
-    return answer.refusal == TTCRX_ACCEPTED && fate_is(answer.outputs, verdict, corrected, word) &&
+    return answer.refusal == TTCRX_ACCEPTED && fate_is(answer.outputs, verdict, place, word) &&
            bus_is(answer.outputs, 0, 0, TTCRX_STROBE_NONE, 0);
 }
 

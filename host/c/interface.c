@@ -29,31 +29,81 @@ static int fields_are(ttcrx_fields fields, uint16_t address, uint8_t e, uint8_t 
            fields.data == data;
 }
 
-static int good(ttcrx_decoded answer, uint8_t corrected, uint32_t word)
+/* A good frame: the corrected flag is 0 if and only if the place is. */
+static int good(ttcrx_decoded answer, uint8_t place, uint32_t word)
 {
     return answer.refusal == TTCRX_ACCEPTED && answer.verdict == TTCRX_DECODED_GOOD &&
-           answer.corrected == corrected && answer.word == word;
+           answer.corrected == (place != 0) && answer.place == place && answer.word == word;
 }
 
-/* A refusal, or a verdict of 7, 8 or 9: no flag and no fields. */
+/* A refusal, or a verdict of 7, 8, 9 or 11: no flag, no place and no fields. */
 static int bad(ttcrx_decoded answer, uint8_t refusal, uint8_t verdict, uint32_t word)
 {
     return answer.refusal == refusal && answer.verdict == verdict && answer.corrected == 0 &&
-           answer.word == word && fields_are(answer.fields, 0, 0, 0, 0);
+           answer.place == 0 && answer.word == word && fields_are(answer.fields, 0, 0, 0, 0);
 }
 
 static void check_decoders(void)
 {
     const ttcrx_decoded corrected = ttcrx_decode_short(0x0095);
     const ttcrx_decoded clean = ttcrx_decode_long(UINT64_C(0x1001710AAB7));
-    CHECK(good(corrected, 1, 0x02) && fields_are(corrected.fields, 0, 0, 0, 0x02));
+    CHECK(good(corrected, 13, 0x02) && fields_are(corrected.fields, 0, 0, 0, 0x02));
     CHECK(good(clean, 0, 0x001710AA) && fields_are(clean.fields, 5, 1, 0x10, 0xAA));
     CHECK(bad(ttcrx_decode_short(0x2096), TTCRX_ACCEPTED, TTCRX_VERDICT_STOP_BIT, 0));
-    CHECK(bad(ttcrx_decode_short(0x0039), TTCRX_ACCEPTED, TTCRX_VERDICT_UNCORRECTABLE, 0));
+    CHECK(bad(ttcrx_decode_short(TWO_FLIPS), TTCRX_ACCEPTED, TTCRX_VERDICT_EVEN_SYNDROME, 0));
+    CHECK(bad(ttcrx_decode_long(WRITE_35 ^ 6), TTCRX_ACCEPTED, TTCRX_VERDICT_EVEN_SYNDROME, 0));
+    CHECK(bad(ttcrx_decode_short(STORM_SHORT), TTCRX_ACCEPTED, TTCRX_VERDICT_ODD_SYNDROME, 0));
+    CHECK(bad(ttcrx_decode_long(STORM_LONG), TTCRX_ACCEPTED, TTCRX_VERDICT_ODD_SYNDROME, 0));
     CHECK(bad(ttcrx_decode_long(UINT64_C(0x1000000010F)), TTCRX_ACCEPTED, TTCRX_VERDICT_FIXED_BIT,
+              1));
+    CHECK(bad(ttcrx_decode_long(UINT64_C(0x1000000010D)), TTCRX_ACCEPTED, TTCRX_VERDICT_FIXED_BIT,
               1));
     CHECK(bad(ttcrx_decode_short(0x4001), TTCRX_REFUSED_FRAME, 0, 0));
     CHECK(bad(ttcrx_decode_long(UINT64_C(0x20000000000)), TTCRX_REFUSED_FRAME, 0, 0));
+}
+
+/* One wrong bit at every place, decoded and as a whole frame: flipped back there, the frame is as it was
+   sent. RESET shows the place too. */
+static void check_places(void)
+{
+    const uint64_t sent_short = BROADCAST_01;
+    uint8_t place;
+    for (place = 1; place <= TTCRX_PLACES_SHORT; place++) {
+        const uint64_t flip = UINT64_C(1) << (TTCRX_PLACES_SHORT + 1 - place);
+        const ttcrx_clock_answer answer = ttcrx_receive_short(fresh_5, sent_short ^ flip);
+        CHECK(good(ttcrx_decode_short(sent_short ^ flip), place, 0x01));
+        CHECK(received(answer, TTCRX_VERDICT_BROADCAST, place, 0x01));
+    }
+    for (place = 1; place <= TTCRX_PLACES_LONG; place++) {
+        const uint64_t flip = UINT64_C(1) << (TTCRX_PLACES_LONG + 1 - place);
+        const ttcrx_clock_answer stored = ttcrx_receive_long(fresh_5, WRITE_35 ^ flip);
+        const ttcrx_clock_answer reset = send_bits(fresh_5, 42, RESET_5 ^ flip);
+        const ttcrx_clock_answer delay = ttcrx_receive(fresh_5, TTCRX_LONG, DELAY_F3 ^ flip);
+        CHECK(good(ttcrx_decode_long(WRITE_35 ^ flip), place, WRITE_35_WORD));
+        CHECK(received(stored, TTCRX_VERDICT_STORED, place, WRITE_35_WORD));
+        CHECK(received(reset, TTCRX_VERDICT_RESET, place, RESET_5_WORD));
+        CHECK(received(delay, TTCRX_VERDICT_NO_SETTING, place, DELAY_F3_WORD));
+        CHECK(same_state(reset.receiver, fresh_5));
+    }
+}
+
+/* Verdict 11 by clocks and as a whole frame: a double error, status bit 5 at 1, and no ones wanted. */
+static void check_storms(void)
+{
+    ttcrx_receiver full = fresh_5;
+    ttcrx_clock_answer answer = send_bits(fresh_5, 16, STORM_SHORT);
+    CHECK(received(answer, TTCRX_VERDICT_ODD_SYNDROME, 0, 0) && held_is(answer.receiver, 0, 0, 0));
+    CHECK(answer.receiver.core.errors.double_errors == 1);
+    answer = ttcrx_receive_long(answer.receiver, STORM_LONG);
+    CHECK(received(answer, TTCRX_VERDICT_ODD_SYNDROME, 0, 0));
+    CHECK(answer.receiver.core.errors.double_errors == 2);
+    CHECK(answer.receiver.core.errors.single_errors == 0);
+    full.core.errors.double_errors = 255;
+    full.core.errors.status5 = 0;
+    answer = ttcrx_receive_short(full, STORM_SHORT);
+    CHECK(received(answer, TTCRX_VERDICT_ODD_SYNDROME, 0, 0));
+    CHECK(answer.receiver.core.errors.double_errors == 255);
+    CHECK(answer.receiver.core.errors.status5 == 1);
 }
 
 static int line_is(const char *characters, uint8_t refusal, uint8_t kind, uint64_t number)
@@ -149,7 +199,7 @@ static void check_ones_wanted(void)
     const ttcrx_clock_answer waiting = send_bits(again.receiver, 41, ONES_41);
     const ttcrx_clock_answer start = send_bits(waiting.receiver, 1, 0);
     const ttcrx_clock_answer frame = send_bits(start.receiver, 15, BROADCAST_01);
-    const ttcrx_clock_answer uncorrectable = send_bits(fresh_5, 16, 0x0039);
+    const ttcrx_clock_answer two_flips = send_bits(fresh_5, 16, TWO_FLIPS);
     CHECK(received(slipped, TTCRX_VERDICT_STOP_BIT, 0, 0) && held_is(slipped.receiver, 0, 41, 0));
     CHECK(received(nearly, TTCRX_VERDICT_NONE, 0, 0) && held_is(nearly.receiver, 0, 1, 0));
     CHECK(received(again, TTCRX_VERDICT_NONE, 0, 0) && held_is(again.receiver, 0, 41, 0));
@@ -157,8 +207,8 @@ static void check_ones_wanted(void)
     CHECK(received(start, TTCRX_VERDICT_NONE, 0, 0) && held_is(start.receiver, 1, 0, 0));
     CHECK(counters_are(start.receiver, 16 + 40 + 1 + 41 + 1, 0));
     CHECK(received(frame, TTCRX_VERDICT_BROADCAST, 0, 0x01));
-    CHECK(received(uncorrectable, TTCRX_VERDICT_UNCORRECTABLE, 0, 0));
-    CHECK(held_is(uncorrectable.receiver, 0, 0, 0));
+    CHECK(received(two_flips, TTCRX_VERDICT_EVEN_SYNDROME, 0, 0));
+    CHECK(held_is(two_flips.receiver, 0, 0, 0));
 }
 
 /* What is well formed: up to 41 ones wanted, and none beside a held bit. Writes leave the run. */
@@ -265,15 +315,15 @@ static void check_frames_without_a_setting(void)
     CHECK(received(clean, TTCRX_VERDICT_NO_SETTING, 0, DELAY_F3_WORD));
     CHECK(same_state(clean.receiver, by_bits.receiver));
     CHECK(received(by_bits, TTCRX_VERDICT_NO_SETTING, 0, DELAY_F3_WORD));
-    CHECK(received(check_bit, TTCRX_VERDICT_NO_SETTING, 1, DELAY_F3_WORD));
-    CHECK(received(data_bit, TTCRX_VERDICT_NO_SETTING, 1, DELAY_F3_WORD));
+    CHECK(received(check_bit, TTCRX_VERDICT_NO_SETTING, 39, DELAY_F3_WORD));
+    CHECK(received(data_bit, TTCRX_VERDICT_NO_SETTING, 28, DELAY_F3_WORD));
     CHECK(data_bit.receiver.core.settings.fine1 == 239 && held_is(data_bit.receiver, 0, 0, 0));
     CHECK(data_bit.receiver.core.errors.single_errors == 2);
     CHECK(data_bit.receiver.core.errors.double_errors == 0);
     CHECK(data_bit.receiver.core.errors.status5 == 1);
-    CHECK(received(two_bits, TTCRX_VERDICT_UNCORRECTABLE, 0, 0));
+    CHECK(received(two_bits, TTCRX_VERDICT_EVEN_SYNDROME, 0, 0));
     CHECK(received(stop_bit, TTCRX_VERDICT_STOP_BIT, 0, 0));
-    CHECK(received(stored, TTCRX_VERDICT_STORED, 1, 0x001500EF));
+    CHECK(received(stored, TTCRX_VERDICT_STORED, 28, 0x001500EF));
     CHECK(read_is(ttcrx_read(stored.receiver, 0), TTCRX_ACCEPTED, 239));
 }
 
@@ -286,7 +336,7 @@ static void check_whole_frames(void)
     const ttcrx_clock_answer rest = ttcrx_receive(part.receiver, TTCRX_SHORT, WRITE_35 & 0xFFFF);
     const ttcrx_clock_answer quiet = ttcrx_receive_short(keeping(0, 1), BROADCAST_01);
     const ttcrx_clock_answer by_kind = ttcrx_receive(keeping(0, 1), TTCRX_LONG, WRITE_35);
-    CHECK(received(corrected, TTCRX_VERDICT_BROADCAST, 1, 0x02));
+    CHECK(received(corrected, TTCRX_VERDICT_BROADCAST, 13, 0x02));
     CHECK(received(stored, TTCRX_VERDICT_STORED, 0, WRITE_35_WORD));
     CHECK(counters_are(stored.receiver, 16 + 42, 0));
     CHECK(received(rest, TTCRX_VERDICT_STORED, 0, WRITE_35_WORD));
@@ -304,6 +354,8 @@ int main(void)
 {
     check_encoders();
     check_decoders();
+    check_places();
+    check_storms();
     check_reader();
     check_writers();
     check_delays();

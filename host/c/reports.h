@@ -69,8 +69,8 @@ static int place_is(const ttcrx_report *report, uint64_t lines, const char *char
 static const char example[] =
     "004F\n2097\n004E\n304F\n100150235AD\n180150235AD\n100190235B5\n4001\n";
 #define EXAMPLE_LINES                                                                              \
-    "1 1 0 01\n2 1 1 02\n3 7 0 -\n4 8 0 -\n"                                                       \
-    "5 2 0 00150235\n6 2 1 00150235\n7 5 0 00190235\n8 ! 12\n"
+    "1 1 0 01 0\n2 1 1 02 1\n3 7 0 -\n4 8 0 -\n"                                                       \
+    "5 2 0 00150235 0\n6 2 1 00150235 1\n7 5 0 00190235 0\n8 ! 12\n"
 #define EXAMPLE_END "end 2 2 0 215\n"
 
 static void check_example(void)
@@ -83,8 +83,8 @@ static void check_example(void)
     CHECK(text_is(&on, EXAMPLE_LINES EXAMPLE_END));
 }
 
-/* A buffer of under 35 bytes takes no line; a longer one as many as leave 35 bytes free before. A line
-   with verdict 10 and a number of 20 digits has 35. */
+/* A buffer of under 38 bytes takes no line; a longer one as many as leave 38 bytes free before. A line
+   with verdict 10, a number of 20 digits and a place of two has 38. */
 static void check_input_room(void)
 {
     const size_t line = TTCRX_LONGEST_LINE;
@@ -93,19 +93,19 @@ static void check_input_room(void)
     CHECK(ttcrx_report_input(on.report, example, 5, NULL, 0).room_wanted == line);
     CHECK(same_state(on.report.receiver, fresh_5) && place_is(&on.report, 0, ""));
     input(&on, example, line, 5, line);
-    input(&on, example + 5, line + 9, 10, line);
-    CHECK(text_is(&on, "1 1 0 01\n2 1 1 02\n3 7 0 -\n"));
+    input(&on, example + 5, line + 11, 10, line);
+    CHECK(text_is(&on, "1 1 0 01 0\n2 1 1 02 1\n3 7 0 -\n"));
     on = begin();
     on.report.lines = UINT64_MAX - 1;
     input(&on, "100150235AD\n", line, 12, 0);
-    CHECK(text_is(&on, "18446744073709551615 2 0 00150235\n") && on.length == line - 1);
+    CHECK(text_is(&on, "18446744073709551615 2 0 00150235 0\n") && on.length == line - 2);
     on = begin();
     on.report.lines = UINT64_MAX - 1;
-    input(&on, "1001500F387\n", line, 12, 0);
-    CHECK(text_is(&on, "18446744073709551615 10 0 001500F3\n") && on.length == line);
+    input(&on, "1001500F385\n", line, 12, 0);
+    CHECK(text_is(&on, "18446744073709551615 10 1 001500F3 39\n") && on.length == line);
 }
 
-/* A last line without line feed; a buffer of under 66 bytes takes no end. */
+/* A last line without line feed; a buffer of under 69 bytes takes no end. */
 static void check_last_line(void)
 {
     reporting on = begin();
@@ -114,7 +114,7 @@ static void check_last_line(void)
     CHECK(ttcrx_report_end(on.report, NULL, 0).room_wanted == TTCRX_LONGEST_END);
     CHECK(text_is(&on, "") && place_is(&on.report, 0, "2097"));
     end(&on, TTCRX_LONGEST_END, 0);
-    CHECK(text_is(&on, "1 1 1 02\nend 1 0 0 16\n") && place_is(&on.report, 1, ""));
+    CHECK(text_is(&on, "1 1 1 02 1\nend 1 0 0 16\n") && place_is(&on.report, 1, ""));
 }
 
 static void check_empty_input(void)
@@ -150,7 +150,7 @@ static void check_other_receivers(void)
     input(&on, "100190235B5\n", ROOM, 12, 0);
     on.report.receiver = send_bits(fresh_5, 26, WRITE_35 >> 16).receiver;
     input(&on, "35AD\n", ROOM, 5, 0);
-    CHECK(text_is(&on, "1 2 0 00190235\n2 2 0 35\n"));
+    CHECK(text_is(&on, "1 2 0 00190235 0\n2 2 0 35 0\n"));
 }
 
 /* 41 ones after a line with verdict 7, the last one too: with the line, not with the next. */
@@ -161,7 +161,7 @@ static void check_ones_after_lines(void)
     CHECK(held_is(on.report.receiver, 0, 0, 0) && counters_are(on.report.receiver, 57, 0));
     input(&on, "004E\n304F\n0001\n004E", ROOM, 19, 0);
     end(&on, TTCRX_LONGEST_END, 0);
-    CHECK(text_is(&on, "1 7 0 -\n2 7 0 -\n3 8 0 -\n4 1 0 00\n5 7 0 -\nend 0 4 0 203\n"));
+    CHECK(text_is(&on, "1 7 0 -\n2 7 0 -\n3 8 0 -\n4 1 0 00 0\n5 7 0 -\nend 0 4 0 203\n"));
     CHECK(held_is(on.report.receiver, 0, 0, 0));
 }
 
@@ -173,12 +173,28 @@ static void check_delays_in_lines(void)
     input(&on, "1001500F387\n1001500E387\n1001500FFA7\n0001\n", ROOM, 41, 0);
     CHECK(on.report.receiver.core.settings.fine1 == 239);
     end(&on, TTCRX_LONGEST_END, 0);
-    CHECK(text_is(&on, "1 10 0 001500F3\n2 10 1 001500F3\n3 2 1 001500EF\n4 1 0 00\n"
+    CHECK(text_is(&on, "1 10 0 001500F3 0\n2 10 1 001500F3 28\n3 2 1 001500EF 28\n4 1 0 00 0\n"
                        "end 2 0 0 142\n"));
     on = begin();
     on.report.receiver = delaying(0, 240);
     input(&on, "1001500F387\n4001\n", ROOM, 17, 0);
     CHECK(text_is(&on, "1 ! 2\n2 ! 12\n") && same_state(on.report.receiver, delaying(0, 240)));
+}
+
+/* The place is the last field for verdicts 1 to 6, 9 and 10; with 8 and 11 the word is '-', and no ones
+   follow. The fixed bit of some frames is wrong; fixed bit 0 after a correction has place 0. */
+static void check_places_in_lines(void)
+{
+    reporting on = begin();
+    input(&on, "0095\n100150235AF\n1001610AAB7\n100180235B5\n100140735DF\n", ROOM, 53, 0);
+    CHECK(text_is(&on, "1 1 1 02 13\n2 2 1 00150235 39\n3 4 1 001710AA 16\n"
+                       "4 5 1 00190235 16\n5 6 1 00150735 16\n"));
+    on = begin();
+    input(&on, "304F\n0039\n10000000003\n1FFFFFFFFFF\n1001500F385\n100140600F3\n0001", ROOM, 62,
+          0);
+    end(&on, TTCRX_LONGEST_END, 0);
+    CHECK(text_is(&on, "1 8 0 -\n2 11 0 -\n3 9 0 00000000 0\n4 11 0 -\n5 10 1 001500F3 39\n"
+                       "6 3 1 00150600 16\n7 1 0 00 0\nend 0 0 0 16\n"));
 }
 
 /* A receiver that wants ones takes no frame of a line; no ones are sent for verdict 0. */
@@ -189,7 +205,7 @@ static void check_receivers_that_want_ones(void)
     input(&on, "004E\n004F\n", ROOM, 10, 0);
     CHECK(held_is(on.report.receiver, 0, 37, 0) && counters_are(on.report.receiver, 32, 0));
     input(&on, "1FFFFFFFFFF\n004F\n", ROOM, 17, 0);
-    CHECK(text_is(&on, "1 0 0 00\n2 0 0 00\n3 0 0 00000000\n4 1 0 01\n"));
+    CHECK(text_is(&on, "1 0 0 00\n2 0 0 00\n3 0 0 00000000\n4 1 0 01 0\n"));
     on = begin();
     on.report.receiver = keeping(1, 1);
     input(&on, "004F\n", ROOM, 5, 0);
@@ -202,6 +218,7 @@ static void check_reports(void)
     check_ones_after_lines();
     check_receivers_that_want_ones();
     check_delays_in_lines();
+    check_places_in_lines();
     check_input_room();
     check_last_line();
     check_empty_input();

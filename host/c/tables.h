@@ -39,7 +39,7 @@ static void check_encodings(void)
                                               : ttcrx_write_short(sent.number, text, 12);
         CHECK(sent.refusal == TTCRX_ACCEPTED && line.refusal == TTCRX_ACCEPTED);
         CHECK(line.kind == one->kind && line.number == sent.number);
-        CHECK(out.verdict == TTCRX_DECODED_GOOD && out.corrected == 0);
+        CHECK(out.verdict == TTCRX_DECODED_GOOD && out.corrected == 0 && out.place == 0);
         CHECK(out.fields.address == in->address && out.fields.e == in->e);
         CHECK(out.fields.sub_address == in->sub_address && out.fields.data == in->data);
         CHECK(written.length == strlen(one->line) + 1 && text[written.length - 1] == '\n');
@@ -117,7 +117,7 @@ static void check_trigger_example(void)
         CHECK(answer.refusal == TTCRX_ACCEPTED && answer.outputs.trigger == shown[i][0]);
         CHECK(answer.outputs.missed == shown[i][1] && answer.outputs.strobe == shown[i][2]);
         CHECK(answer.outputs.number == shown[i][3]);
-        CHECK(answer.outputs.verdict == TTCRX_VERDICT_NONE && answer.outputs.word == 0);
+        CHECK(fate_is(answer.outputs, TTCRX_VERDICT_NONE, 0, 0));
         receiver = answer.receiver;
     }
     CHECK(receiver.core.counters.bunch == 6 && receiver.core.counters.event == 3);
@@ -127,8 +127,8 @@ static void check_trigger_example(void)
 static void check_report_byte_by_byte(void)
 {
     static const char lines[] = "004F\n2097\n004E\n304F\n100150235AD\n180150235AD\n100190235B5\n4001\n";
-    static const char output[] = "1 1 0 01\n2 1 1 02\n3 7 0 -\n4 8 0 -\n5 2 0 00150235\n"
-                                 "6 2 1 00150235\n7 5 0 00190235\n8 ! 12\nend 2 2 0 215\n";
+    static const char output[] = "1 1 0 01 0\n2 1 1 02 1\n3 7 0 -\n4 8 0 -\n5 2 0 00150235 0\n"
+                                 "6 2 1 00150235 1\n7 5 0 00190235 0\n8 ! 12\nend 2 2 0 215\n";
     char text[256];
     size_t at = 0;
     ttcrx_report report = ttcrx_report_start();

@@ -3,7 +3,7 @@
 
 use core::mem::{align_of, offset_of, size_of};
 
-pub const VERSION: u32 = 3;
+pub const VERSION: u32 = 4;
 
 pub const ACCEPTED: u8 = 0;
 pub const REFUSED_BIT: u8 = 1;
@@ -32,14 +32,18 @@ pub const VERDICT_OUTSIDE: u8 = 4;
 pub const VERDICT_OTHER_ADDRESS: u8 = 5;
 pub const VERDICT_OTHER_SUB_ADDRESS: u8 = 6;
 pub const VERDICT_STOP_BIT: u8 = 7;
-pub const VERDICT_UNCORRECTABLE: u8 = 8;
+pub const VERDICT_EVEN_SYNDROME: u8 = 8;
 pub const VERDICT_FIXED_BIT: u8 = 9;
 pub const VERDICT_NO_SETTING: u8 = 10;
+pub const VERDICT_ODD_SYNDROME: u8 = 11;
 
 pub const DECODED_GOOD: u8 = 0;
 
 pub const SHORT: u8 = 0;
 pub const LONG: u8 = 1;
+
+pub const PLACES_SHORT: u8 = 13;
+pub const PLACES_LONG: u8 = 39;
 
 pub const ADDRESS_ALL: u16 = 0;
 pub const SUB_ADDRESS_RESET: u8 = 6;
@@ -57,8 +61,8 @@ pub const CODE_MISSED: u32 = 64;
 pub const BLOCK_CLOCKS: usize = 4096;
 pub const RECORD_NUMBERS: usize = 5;
 
-pub const LONGEST_LINE: usize = 35;
-pub const LONGEST_END: usize = 66;
+pub const LONGEST_LINE: usize = 38;
+pub const LONGEST_END: usize = 69;
 
 /// Structs of ttcrx.h: size and alignment in bytes, and each field with its offset. All are
 /// asserted at compile time.
@@ -103,6 +107,7 @@ layouts! {
         0 refusal: u8,
         1 verdict: u8,
         2 corrected: u8,
+        3 place: u8,
         4 word: u32,
         8 fields: Fields,
     }
@@ -199,10 +204,11 @@ layouts! {
     Outputs: 12, 4 {
         0 trigger: u8,
         1 missed: u8,
-        2 strobe: u8,
-        4 number: u16,
-        6 verdict: u8,
-        7 corrected: u8,
+        2 number: u16,
+        4 strobe: u8,
+        5 verdict: u8,
+        6 corrected: u8,
+        7 place: u8,
         8 word: u32,
     }
 

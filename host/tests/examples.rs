@@ -1,13 +1,12 @@
 //! Compares every function that document 01 has an example of with that example: of the model and
 //! of the library.
 
-use ttcrx_host::model::Kind;
 use ttcrx_host::sys::{Counters, Decoded, Fields, Outputs};
-use ttcrx_host::sys::{STROBE_EVENT_HIGH, VERDICT_NONE, VERDICT_STOP_BIT, VERDICT_UNCORRECTABLE};
+use ttcrx_host::sys::{STROBE_EVENT_HIGH, VERDICT_EVEN_SYNDROME, VERDICT_NONE, VERDICT_STOP_BIT};
 use ttcrx_host::testing::compare::Both;
-use ttcrx_host::testing::frame::{send, Frame, RUN};
+use ttcrx_host::testing::frame::{decode, send, Frame, RUN};
 use ttcrx_host::testing::library::{Library, Model, Proved};
-use ttcrx_host::testing::{example, verdict};
+use ttcrx_host::testing::{example, printed};
 
 #[test]
 fn examples_of_the_model() {
@@ -19,13 +18,13 @@ fn examples_of_the_library() {
     example::check(&Proved);
 }
 
-/// The program's lines, decoded without a receiver: verdict, corrected flag, word, and the address
-/// of a long frame.
+/// The program's lines, decoded without a receiver: verdict, corrected flag and place, which are 0 or
+/// 1 here, word, and the address of a long frame.
 const DECODED: [(u8, u8, u32, u16); 7] = [
     (0, 0, 0x01, 0),
     (0, 1, 0x02, 0),
     (VERDICT_STOP_BIT, 0, 0, 0),
-    (VERDICT_UNCORRECTABLE, 0, 0, 0),
+    (VERDICT_EVEN_SYNDROME, 0, 0, 0),
     (0, 0, 0x0015_0235, 5),
     (0, 1, 0x0015_0235, 5),
     (0, 0, 0x0019_0235, 6),
@@ -34,20 +33,17 @@ const DECODED: [(u8, u8, u32, u16); 7] = [
 #[test]
 fn lines_decoded() {
     let both = Both::of("frames of the program's lines, decoded");
-    for (frame, (verdict, corrected, word, address)) in example::frames().into_iter().zip(DECODED) {
+    for (frame, (verdict, place, word, address)) in example::frames().into_iter().zip(DECODED) {
         let [data, sub_address, _, _] = word.to_le_bytes();
         let expected = Decoded {
             refusal: 0,
             verdict,
-            corrected,
+            corrected: place,
+            place,
             word,
             fields: Fields { address, e: 0, sub_address, data },
         };
-        let answer = match frame.kind() {
-            Kind::Short => both.decode_short(frame.number),
-            Kind::Long => both.decode_long(frame.number),
-        };
-        both.same(frame, answer, expected);
+        both.same(frame, decode(&both, frame), expected);
     }
     both.at_least(2 * 7);
 }
@@ -65,12 +61,7 @@ fn lines_by_single_clocks() {
             let answer = both.clock(state, 0, bit);
             (state, last) = (answer.receiver, answer.outputs);
         }
-        let digits = frame.kind().word_digits();
-        let word = match verdict::has_word(last.verdict) {
-            true => format!("{:0digits$X}", last.word),
-            false => "-".to_string(),
-        };
-        let shown = format!("{} {} {word}", last.verdict, last.corrected);
+        let shown = printed::fate(frame.kind(), &last);
         both.same(line, shown.as_str(), said);
         if last.verdict == VERDICT_STOP_BIT {
             state = send(&both, state, Frame::ones(RUN)).receiver;

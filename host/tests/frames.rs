@@ -1,30 +1,23 @@
 //! Compares encode_short, encode_long, decode_short and decode_long with the model, and with what
-//! document 01 says of flipped bits.
+//! document 01, and Q-8 of document 02, say of flipped bits.
 
 use std::iter;
 use ttcrx_host::model::Kind;
-use ttcrx_host::sys::{Decoded, Fields};
-use ttcrx_host::sys::{REFUSED_FIELD, REFUSED_FRAME};
-use ttcrx_host::sys::{VERDICT_FIXED_BIT, VERDICT_STOP_BIT, VERDICT_UNCORRECTABLE};
+use ttcrx_host::sys::*;
 use ttcrx_host::testing::compare::Both;
 use ttcrx_host::testing::convert::Answer;
+use ttcrx_host::testing::coverage::{assert_seen, Tally};
 use ttcrx_host::testing::example;
-use ttcrx_host::testing::frame::Frame;
+use ttcrx_host::testing::frame::{decode, Frame};
 use ttcrx_host::testing::library::Library;
 use ttcrx_host::testing::random::Random;
-use ttcrx_host::testing::traffic::edge_numbers;
+use ttcrx_host::testing::traffic::{edge_numbers, storm};
 
 const FIXED: u32 = 1 << 16;
 
-fn decode(both: &Both, frame: Frame) -> Decoded {
-    match frame.kind() {
-        Kind::Short => both.decode_short(frame.number),
-        Kind::Long => both.decode_long(frame.number),
-    }
-}
-
-/// What document 01 says of a frame with this word, without the model.
-fn said(kind: Kind, word: u32, corrected: u8) -> Decoded {
+/// What the papers say of a frame with this word, without the model, if the bit at this place was
+/// corrected; none with 0.
+fn said(kind: Kind, word: u32, place: u8) -> Decoded {
     let [data, sub_address, _, _] = word.to_le_bytes();
     let without_fixed_bit = Decoded { word, ..dropped(VERDICT_FIXED_BIT) };
     let fields = match kind {
@@ -34,7 +27,8 @@ fn said(kind: Kind, word: u32, corrected: u8) -> Decoded {
             Fields { address: (word >> 18) as u16, e: (word >> 17 & 1) as u8, sub_address, data }
         }
     };
-    Decoded { corrected, word, fields, ..Decoded::default() }
+    let corrected = (place != 0).into();
+    Decoded { corrected, place, word, fields, ..Decoded::default() }
 }
 
 /// A verdict without a word.
@@ -60,7 +54,8 @@ fn words(seed: u64, count: u64) -> Vec<u32> {
     words
 }
 
-/// A frame of this word, clean and with every one and two flips of protected bits.
+/// A frame of this word, clean and with every one and two flips of protected bits, the first at
+/// each place.
 fn flip(both: &Both, frame: Frame, word: u32) {
     let kind = frame.kind();
     let expect = |flips: u64, expected: Decoded| {
@@ -68,10 +63,11 @@ fn flip(both: &Both, frame: Frame, word: u32) {
         both.same((frame, flips), answer, expected);
     };
     expect(0, said(kind, word, 0));
-    for first in 1..=kind.protected_bits() {
-        expect(1 << first, said(kind, word, 1));
-        for second in first + 1..=kind.protected_bits() {
-            expect(1 << first | 1 << second, dropped(VERDICT_UNCORRECTABLE));
+    for first in frame.places() {
+        expect(frame.at(first), said(kind, word, first));
+        for second in 1..first {
+            let two = frame.at(first) | frame.at(second);
+            expect(two, dropped(VERDICT_EVEN_SYNDROME));
         }
     }
 }
@@ -127,18 +123,90 @@ fn encode_long_random() {
     both.at_least(500_000);
 }
 
+/// What the papers say of every short number under 2^14, without a decoder. All broadcasts are
+/// listed, clean and with each single flip. Of the numbers that are none of these, with stop bit 1,
+/// those that are an even number of flips away from the broadcast of 00 get 8, the others 11.
+fn short_numbers() -> Vec<Decoded> {
+    let zero = Frame::short(0);
+    let rest = |number: u64| match (number & 1, (number ^ zero.number).count_ones() % 2) {
+        (0, _) => dropped(VERDICT_STOP_BIT),
+        (_, 0) => dropped(VERDICT_EVEN_SYNDROME),
+        _ => dropped(VERDICT_ODD_SYNDROME),
+    };
+    let mut numbers: Vec<Decoded> = (0..1 << 14).map(rest).collect();
+    for data in 0..=255 {
+        let frame = Frame::short(data);
+        numbers[frame.number as usize] = said(Kind::Short, data.into(), 0);
+        for place in frame.places() {
+            let flipped = frame.flipped(frame.at(place));
+            numbers[flipped.number as usize] = said(Kind::Short, data.into(), place);
+        }
+    }
+    numbers
+}
+
+/// Of the 32 syndromes one is clean, 13 belong to a bit, 15 others have an even number of ones; 26,
+/// 28 and 31 have an odd number and belong to no bit.
 #[test]
 fn decode_short_numbers() {
     let both = Both::of("decode_short of all 16 bit numbers, and of far ones");
+    let expected = short_numbers();
+    let mut found = [[0; 2]; 12];
+    for number in 0..=0xFFFF {
+        let answer = both.decode_short(number);
+        match expected.get(number as usize) {
+            Some(expected) => {
+                both.same(number, answer, *expected);
+                found[usize::from(answer.verdict)][usize::from(answer.corrected)] += 1;
+            }
+            None => both.same(number, answer, Decoded::refused(REFUSED_FRAME)),
+        }
+    }
+    assert_eq!((found[0], found[7]), ([256, 256 * 13], [1 << 13, 0]));
+    assert_eq!((found[8], found[11]), ([256 * 15, 0], [256 * 3, 0]));
     let mut random = Random::new(3);
-    for number in (0..=0xFFFF).chain(edge_numbers()) {
+    for number in edge_numbers() {
         both.decode_short(number);
     }
     for _ in 0..200_000 {
         both.decode_short(random.number());
         both.decode_short(random.any_length());
     }
-    both.at_least(65_536 + 8 * 64 + 400_000);
+    both.at_least(2 * 65_536 + 8 * 64 + 400_000);
+}
+
+/// The places of some bits by hand, and of each by the words of Q-8 and of ttcrx.h: data bit i of n
+/// and check bit j of w, each counted from the least significant.
+#[test]
+fn places_of_bits() {
+    let both = Both::of("places of bits");
+    let (short, long) = (Frame::short(0x5A), Frame::word(0x0015_0235));
+    for (frame, bit, place) in [
+        (short, 13, 1),
+        (short, 6, 8),
+        (short, 5, 9),
+        (short, 1, 13),
+        (long, 39, 1),
+        (long, 8, 32),
+        (long, 7, 33),
+        (long, 1, 39),
+    ] {
+        let flip = 1u64 << bit;
+        both.same(bit, decode(&both, frame.flipped(flip)).place, place);
+        both.same(bit, (frame.place_of(flip), frame.at(place)), (place, flip));
+    }
+    for (frame, places) in [(short, PLACES_SHORT), (long, PLACES_LONG)] {
+        let (n, w) = (frame.kind().data_bits(), frame.kind().check_bits());
+        let data = (0..n).map(|i| (1 + w + i, n - i));
+        let check = (0..w).map(|j| (1 + j, n + w - j));
+        for (bit, place) in data.chain(check) {
+            let arrived = frame.flipped(1 << bit);
+            let found = decode(&both, arrived).place;
+            both.same(bit, found, place);
+            both.same(bit, arrived.flipped(1 << (places + 1 - found)), frame);
+        }
+    }
+    both.at_least(8 * 3 + (13 + 39) * 3);
 }
 
 /// All broadcasts, as the library encodes them.
@@ -184,30 +252,78 @@ fn long_words_with_unprotected_flips() {
     both.at_least(2_000 * 2 * 40 * 3);
 }
 
-/// Three flips may look like one and four like none, so only the model says what is answered.
+/// Any number of flips. With an odd number the frame is corrected, or gets 11; with an even number
+/// it is clean, or gets 8. One that is taken for another frame differs from it in no bit, or in the
+/// bit at its place; without the fixed bit it gets 9. Gives the verdict.
+fn flip_any(both: &Both, sent: Frame, flips: u64) -> u8 {
+    let (kind, arrived) = (sent.kind(), sent.flipped(flips));
+    let answer = decode(both, arrived);
+    let (verdict, word) = (answer.verdict, answer.word);
+    let wrong = arrived.number ^ Frame::encoded(kind, word).number;
+    let has_word = matches!(verdict, DECODED_GOOD | VERDICT_FIXED_BIT);
+    let expected = match (flips.count_ones() % 2, wrong.count_ones()) {
+        (0, 0) if has_word => said(kind, word, 0),
+        (1, 1) if has_word => said(kind, word, sent.place_of(wrong)),
+        (0, _) => dropped(VERDICT_EVEN_SYNDROME),
+        _ => dropped(VERDICT_ODD_SYNDROME),
+    };
+    both.same((sent, flips), answer, expected);
+    verdict
+}
+
+/// Every set of flips of every broadcast: with two 8, with an odd number never 8, with an even number
+/// never 11.
 #[test]
-fn long_words_with_three_and_four_flips() {
-    let both = Both::of("long words with three and four flips");
-    let mut random = Random::new(7);
-    for _ in 0..300_000 {
-        let mut frame = Frame::word(random.number() as u32 | FIXED);
-        let mut places: Vec<u32> = (1..=39).collect();
-        for count in 1..=4 {
-            let place = places.swap_remove(random.below(places.len() as u64) as usize);
-            frame = frame.flipped(1 << place);
-            if count >= 3 {
-                decode(&both, frame);
-            }
+fn broadcasts_with_every_set_of_flips() {
+    let both = Both::of("broadcasts with every set of flips");
+    let mut found = [[0u32; 12]; 14];
+    for data in 0..=255 {
+        let frame = Frame::of(Kind::Short, both.encode_short(data).number);
+        for flips in (1..1 << 13).map(|flips: u64| flips << 1) {
+            let verdict = flip_any(&both, frame, flips);
+            found[flips.count_ones() as usize][usize::from(verdict)] += 1;
         }
     }
-    both.at_least(600_000);
+    for (count, found) in found.iter().enumerate() {
+        let never = if count % 2 == 1 { VERDICT_EVEN_SYNDROME } else { VERDICT_ODD_SYNDROME };
+        assert_eq!(found[usize::from(never)], 0, "{count} flips: {found:?}");
+    }
+    let of = |count: usize, verdict: u8| found[count][usize::from(verdict)];
+    assert_eq!(of(1, DECODED_GOOD), 256 * 13);
+    assert_eq!(of(2, VERDICT_EVEN_SYNDROME), 256 * 78);
+    assert_eq!((of(3, DECODED_GOOD), of(3, VERDICT_ODD_SYNDROME)), (256 * 220, 256 * 66));
+    assert_eq!((of(4, DECODED_GOOD), of(4, VERDICT_EVEN_SYNDROME)), (256 * 55, 256 * 660));
+    both.at_least(256 * (1 + 8191 * 2));
+}
+
+/// Three to 39 flips of long words.
+#[test]
+fn long_words_with_many_flips() {
+    let both = Both::of("long words with 3 to 39 flips");
+    let mut random = Random::new(7);
+    let mut counts = Tally::of([("flips", 3, 39)]);
+    let mut fates = Tally::of([("odd", 0, 1), ("fate (another frame, fixed bit, dropped)", 0, 2)]);
+    for _ in 0..600_000 {
+        let frame = Frame::word(random.number() as u32 | FIXED);
+        let flips = storm(&mut random, frame, 3);
+        let count = flips.count_ones() as u8;
+        let fate = match flip_any(&both, frame, flips) {
+            DECODED_GOOD => 0,
+            VERDICT_FIXED_BIT => 1,
+            _ => 2,
+        };
+        counts.seen([count]);
+        fates.seen([count % 2, fate]);
+    }
+    assert_seen(&[&counts, &fates]);
+    both.at_least(2 * 600_000);
 }
 
 #[test]
 fn decode_long_random() {
     let both = Both::of("decode_long of random numbers");
     let mut random = Random::new(8);
-    let mut verdicts = [0; 10];
+    let mut verdicts = [0; 12];
     for _ in 0..1_000_000 {
         both.decode_long(random.number());
         both.decode_long(random.any_length());
@@ -215,7 +331,7 @@ fn decode_long_random() {
         let verdict = both.decode_long(leading_right).verdict;
         verdicts[usize::from(verdict)] += 1;
     }
-    for verdict in [0, 7, 8, 9] {
+    for verdict in [0, 7, 8, 9, 11] {
         assert!(verdicts[verdict] > 10_000, "verdicts {verdicts:?}");
     }
     both.at_least(3_000_000);
@@ -224,8 +340,8 @@ fn decode_long_random() {
 #[test]
 fn decode_long_edges() {
     let both = Both::of("decode_long of edges");
-    for frame in example::UNCORRECTABLE {
-        both.same(frame, decode(&both, frame), dropped(VERDICT_UNCORRECTABLE));
+    for frame in example::ODD_SYNDROMES {
+        both.same(frame, decode(&both, frame), dropped(VERDICT_ODD_SYNDROME));
     }
     for number in edge_numbers() {
         both.decode_long(number);

@@ -58,7 +58,7 @@ fn functions(path: &str, before: &str) -> Names {
 #[test]
 fn constants_are_those_of_the_header() {
     let header = defined();
-    assert_eq!(header.len(), 18 + 11 + 1 + 2 + 2 + 4 + 4 + 2 + 2 + 1);
+    assert_eq!(header.len(), 18 + 12 + 1 + 2 + 2 + 2 + 4 + 4 + 2 + 2 + 1);
     assert_eq!(constants("src/sys.rs"), header);
 }
 
@@ -143,14 +143,15 @@ fn verdicts() -> Vec<(&'static str, u8)> {
         ("VERDICT_OTHER_ADDRESS", verdict(long(6, 0, 2))),
         ("VERDICT_OTHER_SUB_ADDRESS", verdict(long(5, 0, 4))),
         ("VERDICT_STOP_BIT", verdict(Frame::short(0x01).flipped(1))),
-        ("VERDICT_UNCORRECTABLE", verdict(example::UNCORRECTABLE[0])),
+        ("VERDICT_EVEN_SYNDROME", verdict(Frame::short(0x01).flipped(0b11 << 1))),
         ("VERDICT_FIXED_BIT", verdict(Frame::word(0))),
         ("VERDICT_NO_SETTING", verdict(Frame::word(0x0015_00F3))),
+        ("VERDICT_ODD_SYNDROME", verdict(example::ODD_SYNDROMES[0])),
         ("DECODED_GOOD", ttcrx::decode_short(0x004F).verdict),
     ]
 }
 
-/// The kinds of frames, and the strobes of one trigger.
+/// The kinds of frames, the places of their last protected bits, and the strobes of one trigger.
 fn kinds() -> Vec<(&'static str, u8)> {
     let idle = ttcrx::clock(fresh(), 0, 1);
     let bunch = ttcrx::clock(fresh(), 1, 1);
@@ -159,6 +160,8 @@ fn kinds() -> Vec<(&'static str, u8)> {
     vec![
         ("SHORT", ttcrx::read_line(b"004F").kind),
         ("LONG", ttcrx::read_line(b"100150235AD").kind),
+        ("PLACES_SHORT", ttcrx::decode_short(0x0095).place),
+        ("PLACES_LONG", ttcrx::decode_long(0x100_1502_35AF).place),
         ("STROBE_NONE", idle.outputs.strobe),
         ("STROBE_BUNCH", bunch.outputs.strobe),
         ("STROBE_EVENT_LOW", low.outputs.strobe),

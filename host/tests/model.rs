@@ -44,23 +44,53 @@ fn columns_have_three_ones_and_differ() {
     }
 }
 
-/// The frame, or one flip of it, that is equal to what its own data encode to.
-fn reencoded(number: u64, kind: Kind, encode: impl Fn(u64) -> u64) -> Option<u64> {
-    let flips = (1..=kind.protected_bits()).map(|place| number ^ 1 << place);
-    std::iter::once(number).chain(flips).find(|&frame| encode(frame) == frame)
+/// The frame of the data of this number, as the encoder gives it.
+fn encoded(kind: Kind, number: u64) -> u64 {
+    match kind {
+        Kind::Short => encode_short((number >> 6) as u8),
+        Kind::Long => encode_word((number >> 8) as u32),
+    }
+}
+
+/// The frame, or one flip of it, that is equal to what its own data encode to; with the flip.
+fn reencoded(kind: Kind, number: u64) -> Option<(u64, u64)> {
+    let flips = (1..=kind.protected_bits()).map(|bit| 1 << bit);
+    let mut all = std::iter::once(0).chain(flips).map(|flip| (number ^ flip, flip));
+    all.find(|&(frame, _)| encoded(kind, frame) == frame)
+}
+
+/// the place of a flip, "1 to 39", by comparing the bits in the order sent; none of no flip.
+fn place(kind: Kind, flip: u64) -> Option<u8> {
+    let after_format = bits(flip, kind.length()).skip(2);
+    let found = after_format.zip(1..).find(|&(flipped, _)| flipped);
+    found.map(|(_, place)| place)
+}
+
+/// "The syndrome is received check number xor the check number of the received data": the ones of
+/// it. The frame encoded from the received data differs from the received one in these bits.
+fn ones_of_syndrome(kind: Kind, number: u64) -> u32 {
+    (encoded(kind, number) ^ number).count_ones()
+}
+
+/// The verdict of a frame with stop bit 1 that no single flip makes right.
+fn uncorrectable(kind: Kind, number: u64) -> Verdict {
+    match ones_of_syndrome(kind, number) % 2 {
+        0 => Verdict::EvenSyndrome,
+        _ => Verdict::OddSyndrome,
+    }
 }
 
 /// The decoder's check numbers by bytes and the encoder's bits in the order sent are one code.
 #[test]
 fn short_search_agrees_with_the_encoder() {
     for number in (1..1 << 14).step_by(2) {
-        let data = |frame: u64| (frame >> 6) as u8;
-        let found = reencoded(number, Kind::Short, |frame| encode_short(data(frame)));
+        let found = reencoded(Kind::Short, number);
+        let data = found.map_or(0, |(frame, _)| (frame >> 6) as u8);
         let expected = Decoded {
-            verdict: found.map_or(Verdict::Uncorrectable, |_| Verdict::None),
-            corrected: found.is_some_and(|frame| frame != number),
-            word: found.map_or(0, data).into(),
-            fields: fields(0, 0, 0, found.map_or(0, data)),
+            verdict: found.map_or(uncorrectable(Kind::Short, number), |_| Verdict::None),
+            flipped: found.and_then(|(_, flip)| place(Kind::Short, flip)),
+            word: data.into(),
+            fields: fields(0, 0, 0, data),
         };
         assert_eq!(decode_short(number), Ok(expected), "{number:04X}");
     }
@@ -69,13 +99,36 @@ fn short_search_agrees_with_the_encoder() {
 #[test]
 fn long_search_agrees_with_the_encoder() {
     let mut random = random::Random::new(1);
-    for _ in 0..5_000 {
+    for _ in 0..20_000 {
         let number = 1 << 40 | random.below(1 << 40) | 1;
-        let word = |frame: u64| (frame >> 8) as u32;
-        let expected = reencoded(number, Kind::Long, |frame| encode_word(word(frame)));
         let decoded = decode_long(number).expect("a long frame");
-        let found = (decoded.verdict != Verdict::Uncorrectable).then_some(decoded.word);
-        assert_eq!(found, expected.map(word), "{number:011X}");
+        let said = (decoded.verdict, decoded.flipped, decoded.word);
+        let expected = match reencoded(Kind::Long, number) {
+            None => (uncorrectable(Kind::Long, number), None, 0),
+            Some((frame, flip)) => match (frame >> 8) as u32 {
+                word if word & 1 << 16 == 0 => (Verdict::FixedBit, None, word),
+                word => (Verdict::None, place(Kind::Long, flip), word),
+            },
+        };
+        assert_eq!(said, expected, "{number:011X}");
+    }
+}
+
+/// the flipped bit of a frame, at each place in the order sent; two flips have an even
+/// syndrome.
+#[test]
+fn places_and_pairs() {
+    for (kind, frame) in [(Kind::Short, 0x2097), (Kind::Long, long_frame(2, 0x35))] {
+        let frame = encoded(kind, frame);
+        let flips: Vec<u64> = (1..=kind.protected_bits()).rev().map(|bit| 1 << bit).collect();
+        for (first, place) in flips.iter().zip(1..) {
+            let one = model::decode(kind, frame ^ first).expect("a frame");
+            assert_eq!((one.verdict, one.flipped), (Verdict::None, Some(place)));
+            for second in flips.iter().filter(|second| *second != first) {
+                let two = model::decode(kind, frame ^ first ^ second).expect("a frame");
+                assert_eq!((two.verdict, two.flipped), (Verdict::EvenSyndrome, None));
+            }
+        }
     }
 }
 
@@ -137,21 +190,35 @@ fn fresh_registers() {
     assert_eq!(fresh().state(), expected);
 }
 
-/// One stray 0 in idle: the 41 ones after it make an uncorrectable frame of it.
+/// One stray 0 in idle: the 41 ones after it make a frame of it. "Has syndrome 124", which has five
+/// ones and belongs to no bit; Q-8: "1FFFFFFFFFF now get 11".
 #[test]
 fn a_stray_zero_in_idle() {
     let mut receiver = fresh();
     let shown = send(&mut receiver, Kind::Long, 0x1FF_FFFF_FFFF);
-    assert_eq!(shown.fate.verdict, Verdict::Uncorrectable);
+    assert_eq!(shown.fate, Fate { verdict: Verdict::OddSyndrome, ..Fate::default() });
     let state = receiver.state();
     assert_eq!((state.single_errors, state.double_errors), (0, 1));
+    assert_eq!(ones_of_syndrome(Kind::Long, 0x1FF_FFFF_FFFF), 124u8.count_ones());
 }
 
-/// Status bit 5 is cleared by verdict 7 and set by any other finished frame, 8 among them.
+/// verdict 11 raises the double counter up to its top.
+#[test]
+fn odd_syndromes_are_counted() {
+    let mut receiver = fresh();
+    for frames in 1..=300 {
+        let shown = send(&mut receiver, Kind::Short, 0x0039);
+        assert_eq!(shown.fate.verdict, Verdict::OddSyndrome);
+        assert_eq!(receiver.state().double_errors, frames.min(255) as u8);
+    }
+}
+
+/// Status bit 5 is cleared by verdict 7 and set by any other finished frame, 8 and 11 among them.
 #[test]
 fn status_bit_5() {
     let mut receiver = fresh();
-    for (number, after) in [(0x004E, 0), (0x304F, 1), (0x004E, 0), (0x004F, 1)] {
+    let frames = [(0x004E, 0), (0x304F, 1), (0x004E, 0), (0x004F, 1), (0x004E, 0), (0x0039, 1)];
+    for (number, after) in frames {
         send(&mut receiver, Kind::Short, number);
         assert_eq!(receiver.state().status5, after);
         receiver.idle(41);
@@ -199,12 +266,13 @@ fn a_slipped_bit() {
     assert_eq!(receiver.state().double_errors, 1);
 }
 
-/// Q-1 speaks of verdict 7 alone. After 8 and 9 the next bit may be a start bit.
+/// Q-1 speaks of verdict 7 alone. After 8, 9 and 11 the next bit may be a start bit.
 #[test]
 fn no_quiet_after_other_verdicts() {
     let frames = [
-        (Kind::Short, 0x304F, Verdict::Uncorrectable),
+        (Kind::Short, 0x304F, Verdict::EvenSyndrome),
         (Kind::Long, 1 << 40 | 1, Verdict::FixedBit),
+        (Kind::Short, 0x0039, Verdict::OddSyndrome),
     ];
     for (kind, number, verdict) in frames {
         let mut receiver = fresh();
@@ -234,11 +302,31 @@ fn lines_with_verdict_7() {
     for (input, output) in [
         ("004E\n", "1 7 0 -\nend 0 1 0 57\n"),
         ("004E", "1 7 0 -\nend 0 1 0 57\n"),
-        ("004E\n004E\n0001", "1 7 0 -\n2 7 0 -\n3 1 0 00\nend 0 2 0 130\n"),
+        ("004E\n004E\n0001", "1 7 0 -\n2 7 0 -\n3 1 0 00 0\nend 0 2 0 130\n"),
         ("304F\n", "1 8 0 -\nend 0 1 0 16\n"),
     ] {
-        let said = model::report::whole_output(input.as_bytes());
-        assert_eq!(String::from_utf8_lossy(&said), output);
+        prints(input, output);
+    }
+}
+
+/// The whole output of an input.
+fn prints(input: &str, output: &str) {
+    let said = model::report::whole_output(input.as_bytes());
+    assert_eq!(String::from_utf8_lossy(&said), output);
+}
+
+/// "prints that place as a last field for verdicts 1 to 6, 9 and 10".
+#[test]
+fn lines_with_places() {
+    for (input, output) in [
+        ("2097\n0095\n", "1 1 1 02 1\n2 1 1 02 13\nend 2 0 0 32\n"),
+        ("100150235AF\n", "1 2 1 00150235 39\nend 1 0 0 42\n"),
+        ("0039\n1FFFFFFFFFF\n", "1 11 0 -\n2 11 0 -\nend 0 2 0 58\n"),
+        // Fixed bit 0, clean and with a wrong check bit; F3 for register 0, likewise.
+        ("10000000001\n10000000003", "1 9 0 00000000 0\n2 9 0 00000000 0\nend 0 2 0 84\n"),
+        ("1001500F387\n1001500F385", "1 10 0 001500F3 0\n2 10 1 001500F3 39\nend 1 0 0 84\n"),
+    ] {
+        prints(input, output);
     }
 }
 
@@ -272,7 +360,7 @@ fn frames_without_a_setting() {
             let stored = sub_address == 2 || data < 240;
             let verdict = if stored { Verdict::Stored } else { Verdict::NoSetting };
             let word = (number >> 8) as u32;
-            assert_eq!(fate, Fate { verdict, corrected: flip != 0, word });
+            assert_eq!(fate, Fate { verdict, flipped: place(Kind::Long, flip), word });
             let after = receiver.state();
             let held = if stored { data } else { 0 };
             assert_eq!(after.registers[usize::from(sub_address)], held);
@@ -345,7 +433,7 @@ fn reset_is_fresh() {
     let shown = receiver.clock(true, true);
     assert_eq!((shown.bus, shown.missed), (Bus::EventHigh(0), true));
     let fate = shown.fate;
-    assert_eq!((fate.verdict, fate.corrected), (Verdict::Reset, true));
+    assert_eq!((fate.verdict, fate.flipped), (Verdict::Reset, Some(20)));
     assert_eq!(receiver.state(), fresh().state());
 }
 

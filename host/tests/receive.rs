@@ -11,7 +11,7 @@ use ttcrx_host::testing::library::{Library, Proved};
 use ttcrx_host::testing::lines::{any_frame, EVERY_KIND};
 use ttcrx_host::testing::random::Random;
 use ttcrx_host::testing::states::{self, edges};
-use ttcrx_host::testing::{traffic, verdict};
+use ttcrx_host::testing::{example, traffic, verdict};
 use ttcrx_host::ttcrx;
 
 /// "A number that is no frame of this kind, as for the decoders"; no number is one of a kind over 1.
@@ -209,25 +209,33 @@ fn long_runs() {
     both.at_least(7 * 20 * 5_000);
 }
 
+/// Verdict, place and word of a whole frame that changes nothing but the error counters and status
+/// bit 5: the single error counter goes up if a place is shown, the double one if it was dropped.
+fn changes_nothing(both: &Both, state: Receiver, arrived: Frame, said: (u8, u8, u32)) {
+    let (verdict, place, word) = said;
+    let answer = receive(both, state, arrived.kind().number(), arrived.number);
+    let corrected = u8::from(place != 0);
+    let shown = Outputs { verdict, corrected, place, word, ..Outputs::default() };
+    let mut expected = send(&Proved, state, Frame::ones(arrived.length)).receiver;
+    let errors = &mut expected.core.errors;
+    errors.status5 = 1;
+    errors.single_errors = errors.single_errors.saturating_add(corrected.into());
+    let dropped = verdict::is_dropped(verdict).into();
+    errors.double_errors = errors.double_errors.saturating_add(dropped);
+    both.same((state, arrived), (answer.outputs, answer.receiver), (shown, expected));
+}
+
 /// Internal frames with fine delays of no setting, clean and with every one and every two flips of
-/// protected bits, written down: verdict 10 with the word, then with the flag too, and 8.
+/// protected bits, written down: verdict 10 with the word, then with flag and place too, and 8.
 fn flips_without_a_setting(both: &Both, state: Receiver, word: u32) {
     let frame = Frame::word(word);
-    let idle = send(&Proved, state, Frame::ones(frame.length)).receiver;
-    let expect = |flips: u64, verdict: u8, corrected: u8, word: u32| {
-        let answer = receive(both, state, LONG, frame.flipped(flips).number);
-        let shown = Outputs { verdict, corrected, word, ..Outputs::default() };
-        let mut expected = idle;
-        expected.core.errors.status5 = 1;
-        expected.core.errors.single_errors += u16::from(corrected);
-        expected.core.errors.double_errors += u8::from(verdict == VERDICT_UNCORRECTABLE);
-        both.same((state, frame, flips), (answer.outputs, answer.receiver), (shown, expected));
-    };
-    expect(0, VERDICT_NO_SETTING, 0, word);
-    for first in 1..=39 {
-        expect(1 << first, VERDICT_NO_SETTING, 1, word);
+    changes_nothing(both, state, frame, (VERDICT_NO_SETTING, 0, word));
+    for first in frame.places() {
+        let one = frame.flipped(frame.at(first));
+        changes_nothing(both, state, one, (VERDICT_NO_SETTING, first, word));
         for second in 1..first {
-            expect(1 << first | 1 << second, VERDICT_UNCORRECTABLE, 0, 0);
+            let two = one.flipped(frame.at(second));
+            changes_nothing(both, state, two, (VERDICT_EVEN_SYNDROME, 0, 0));
         }
     }
 }
@@ -247,6 +255,63 @@ fn frames_without_a_setting() {
         }
     }
     both.at_least(16 * 2 * (1 + 39 + 741) * 4);
+}
+
+/// Q-8 of document 02: every place of whole frames, with each verdict that a corrected frame may
+/// have.
+#[test]
+fn every_place() {
+    let both = Both::of("whole frames with one flip, by verdict and place");
+    let fresh = ttcrx::fresh(5, 5).receiver;
+    let long = |word, verdict| (Frame::word(word), verdict);
+    let frames = [
+        (Frame::short(0x5B), VERDICT_BROADCAST),
+        long(0x0015_0235, VERDICT_STORED),
+        long(0x0015_0600, VERDICT_RESET),
+        long(0x0017_0235, VERDICT_OUTSIDE),
+        long(0x0019_0235, VERDICT_OTHER_ADDRESS),
+        long(0x0015_0435, VERDICT_OTHER_SUB_ADDRESS),
+        long(0x0015_00F3, VERDICT_NO_SETTING),
+    ];
+    for (frame, verdict) in frames {
+        let clean = receive(&both, fresh, frame.kind().number(), frame.number);
+        let shown = Outputs { verdict, word: frame.data(), ..Outputs::default() };
+        both.same(frame, clean.outputs, shown);
+        for place in frame.places() {
+            let arrived = frame.flipped(frame.at(place));
+            let answer = receive(&both, fresh, arrived.kind().number(), arrived.number);
+            both.same((frame, place), answer.outputs, Outputs { corrected: 1, place, ..shown });
+            let mut expected = clean.receiver;
+            expected.core.errors.single_errors += u16::from(verdict != VERDICT_RESET);
+            both.same((frame, place), answer.receiver, expected);
+        }
+    }
+    both.at_least(7 * 4 + (13 + 6 * 39) * 5);
+}
+
+/// Frames that cannot be corrected, by their syndromes and from document 01: with 11 an odd number
+/// of bits is wrong, with 8 an even number.
+#[test]
+fn storms() {
+    let both = Both::of("whole frames that cannot be corrected");
+    let long = Frame::word(0x0015_0235);
+    let frames = [
+        (example::ODD_SYNDROMES[0], VERDICT_ODD_SYNDROME),
+        (example::ODD_SYNDROMES[1], VERDICT_ODD_SYNDROME),
+        (example::frames()[3], VERDICT_EVEN_SYNDROME),
+        (Frame::short(0x01).flipped(31 << 1), VERDICT_ODD_SYNDROME),
+        (Frame::short(0x01).flipped(15 << 1), VERDICT_EVEN_SYNDROME),
+        (long.flipped(124 << 1), VERDICT_ODD_SYNDROME),
+        (long.flipped(127 << 1), VERDICT_ODD_SYNDROME),
+        (long.flipped(126 << 1), VERDICT_EVEN_SYNDROME),
+    ];
+    let mut random = Random::new(309);
+    for (frame, verdict) in frames.into_iter().flat_map(|frame| [frame; 100]) {
+        let mut state = states::well_formed(&mut random);
+        state.held = Held::default();
+        changes_nothing(&both, state, frame, (verdict, 0, 0));
+    }
+    both.at_least(8 * 100 * 4);
 }
 
 #[test]

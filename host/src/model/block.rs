@@ -34,7 +34,7 @@ fn check(block: &[u8], room: usize) -> Result<(), Refusal> {
 #[inline]
 fn code(outputs: &Outputs) -> u32 {
     outputs.fate.verdict as u32
-        + 16 * u32::from(outputs.fate.corrected)
+        + 16 * u32::from(outputs.fate.corrected())
         + 32 * u32::from(outputs.trigger)
         + 64 * u32::from(outputs.missed)
 }

@@ -1,8 +1,9 @@
-//! "Frames on channel B" of document 01.
+//! "Frames on channel B" of document 01, with what Q-8 of document 02 adds, "Say what was wrong and
+//! which bit".
 //!
 //! A frame is encoded as bits in the order sent. A received frame is decoded by a search for the
-//! nearest codeword among itself and its single flips of a protected bit; each one is tried by
-//! encoding its data afresh and comparing the check bits.
+//! nearest codeword among itself and its single flips of a protected bit, in the order sent; each
+//! one is tried by encoding its data afresh and comparing the check bits. No syndrome is worked out.
 
 use super::Refusal;
 
@@ -76,8 +77,8 @@ pub struct Fields {
     pub data: u8,
 }
 
-/// "Fate of a finished frame": the verdicts, and that of Q-4. 0 is a clock on which no frame
-/// finished, and a frame that was decoded well without a receiver.
+/// "Fate of a finished frame": the verdicts, and those of Q-4 and Q-8. 0 is a clock on which no
+/// frame finished, and a frame that was decoded well without a receiver.
 #[derive(Clone, Copy, Debug, Default, PartialEq, Eq)]
 pub enum Verdict {
     #[default]
@@ -89,16 +90,18 @@ pub enum Verdict {
     OtherAddress = 5,
     OtherSubAddress = 6,
     StopBit = 7,
-    Uncorrectable = 8,
+    EvenSyndrome = 8,
     FixedBit = 9,
     NoSetting = 10,
+    OddSyndrome = 11,
 }
 
-/// The answer to a frame number without a receiver: verdict 7, 8 or 9; else 0, and the fields.
+/// The answer to a frame number without a receiver: verdict 7, 8, 9 or 11; else 0, and the fields.
 #[derive(Clone, Copy, Debug, PartialEq, Eq)]
 pub struct Decoded {
     pub verdict: Verdict,
-    pub corrected: bool,
+    /// The place of the flipped bit of a corrected frame. The corrected flag is 1 where it has one.
+    pub flipped: Option<u8>,
     pub word: u32,
     pub fields: Fields,
 }
@@ -224,16 +227,40 @@ fn is_codeword(kind: Kind, number: u64) -> bool {
     u64::from(quick_check_number(data_of(kind, number))) == check
 }
 
-/// The number itself if it is a codeword, else that with one protected bit flipped which is; none
-/// if there is none.
+/// Q-8: "counts the frame's bits after the format bit, in the order sent": the bit at this place,
+/// from 1. Start and format are sent before it.
 #[inline]
-fn nearest(kind: Kind, number: u64) -> Option<u64> {
+const fn bit_at(kind: Kind, place: u8) -> u64 {
+    let start = 1 << (kind.length() - 1);
+    start >> 1 >> place
+}
+
+/// The number itself if it is a codeword, else that with one protected bit flipped which is, and
+/// the place of that bit; none if there is none.
+#[inline]
+fn nearest(kind: Kind, number: u64) -> Option<(u64, Option<u8>)> {
     if is_codeword(kind, number) {
-        return Some(number);
+        return Some((number, None));
     }
     (1..=kind.protected_bits())
-        .map(|place| number ^ (1 << place))
-        .find(|&flipped| is_codeword(kind, flipped))
+        .map(|place| (number ^ bit_at(kind, place), Some(place)))
+        .find(|&(flipped, _)| is_codeword(kind, flipped))
+}
+
+/// Q-8: "Verdict 8 is kept for an even number of ones in the syndrome; verdict 11 is given for an
+/// odd number that belongs to no bit."
+///
+/// Here the ones of data and check bits as received are counted instead. Each column has three
+/// ones, an odd number, so that the check number of any data has an odd number of ones exactly if
+/// the data have. The syndrome is the received check number xor that of the received data: the
+/// number of its ones is odd exactly if that of the received check and data bits together is.
+fn uncorrectable(kind: Kind, number: u64) -> Verdict {
+    let after_format = bits(number, kind.length()).skip(2);
+    let protected = after_format.take(kind.protected_bits().into());
+    match protected.filter(|&bit| bit).count() % 2 {
+        0 => Verdict::EvenSyndrome,
+        _ => Verdict::OddSyndrome,
+    }
 }
 
 /// "Address (bits 31..18), E (17), a fixed 1 (16), sub-address (15..8), data (7..0)" of a long word;
@@ -252,26 +279,26 @@ fn fields_of(kind: Kind, word: u32) -> Option<Fields> {
     }
 }
 
-/// "Fate of a finished frame", verdicts 7, 8 and 9: flag 0, and here no fields.
+/// "Fate of a finished frame", verdicts 7, 8, 9 and 11: flag and place 0, and here no fields.
 fn bad(verdict: Verdict, word: u32) -> Decoded {
-    Decoded { verdict, corrected: false, word, fields: Fields::default() }
+    Decoded { verdict, flipped: None, word, fields: Fields::default() }
 }
 
-/// "Fate of a finished frame": verdicts 7, 8 and 9 in this order; else the corrected frame. With
-/// the widths of one kind as constants the search is faster.
+/// "Fate of a finished frame": verdicts 7, then 8 or 11, then 9; else the corrected frame. With the
+/// widths of one kind as constants the search is faster.
 #[inline(always)]
 fn received(kind: Kind, number: u64) -> Decoded {
     if number & 1 == 0 {
         return bad(Verdict::StopBit, 0);
     }
-    let Some(right) = nearest(kind, number) else {
-        return bad(Verdict::Uncorrectable, 0);
+    let Some((right, flipped)) = nearest(kind, number) else {
+        return bad(uncorrectable(kind, number), 0);
     };
     let word = data_of(kind, right);
     let Some(fields) = fields_of(kind, word) else {
         return bad(Verdict::FixedBit, word);
     };
-    Decoded { verdict: Verdict::None, corrected: right != number, word, fields }
+    Decoded { verdict: Verdict::None, flipped, word, fields }
 }
 
 /// What a number says as a short frame. Refusal 12.

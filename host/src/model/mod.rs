@@ -1,14 +1,16 @@
-//! An independent model of document 01, and of of document 02: frames, stored lines, fine
-//! delays, the receiver, blocks of clocks, and the program `ttclines`.
+//! An independent model of document 01, and of of document 02: frames, stored
+//! lines, fine delays, the receiver, blocks of clocks, and the program `ttclines`.
 //!
-//! It works differently. A received frame is decoded by a search for the nearest codeword. The bits
-//! of an unfinished frame are kept one by one in the order received, a running sequence as the two
-//! words of its event number, and of a Config byte only the bit that may change. After a bad stop
-//! bit the last 41 bits of channel B are kept, and compared with 41 ones; the ones still wanted are
-//! worked out only for the plain state. A fine delay byte is found by a search with the formula of
-//! the way back, a setting by one with the formula of the byte. Of registers 0 and 1 the settings
-//! are kept, not the bytes: a byte is refused there if no setting is found for it. The model depends
-//! on nothing else of this package.
+//! It works differently. A received frame is decoded by a search for the nearest codeword, over its
+//! bits in the order sent, which also gives the place of a flipped bit. Where none is found, verdict
+//! 8 or 11 goes by the number of ones received; no syndrome is worked out. The bits of an unfinished
+//! frame are kept one by one in the order received, a running sequence as the two words of its event
+//! number, and of a Config byte only the bit that may change. After a bad stop bit the last 41 bits
+//! of channel B are kept, and compared with 41 ones; the ones still wanted are worked out only for
+//! the plain state. A fine delay byte is found by a search with the formula of the way back, a
+//! setting by one with the formula of the byte. Of registers 0 and 1 the settings are kept, not the
+//! bytes: a byte is refused there if no setting is found for it. The model depends on nothing else
+//! of this package.
 
 pub mod block;
 mod delay;

@@ -1,16 +1,32 @@
-//! "One clock" and "Fate of a finished frame" of document 01, and of document 02: the
-//! receiver.
+//! "One clock" and "Fate of a finished frame" of document 01, and of document 02:
+//! the receiver.
 
 use super::frame::{bits, decode, leading};
 use super::stored::Stored;
 use super::{Decoded, Fields, Kind, Refusal, Verdict};
 
-/// "Fate of a finished frame": verdict, corrected flag and word that a clock shows.
+/// "Fate of a finished frame": verdict, corrected flag, place and word that a clock shows.
 #[derive(Clone, Copy, Debug, Default, PartialEq, Eq)]
 pub struct Fate {
     pub verdict: Verdict,
-    pub corrected: bool,
+    /// "A corrected frame also reports the flipped bit". The corrected flag is 1 where there is
+    /// one.
+    pub flipped: Option<u8>,
     pub word: u32,
+}
+
+impl Fate {
+    /// The corrected flag.
+    #[inline]
+    pub fn corrected(&self) -> bool {
+        self.flipped.is_some()
+    }
+
+    /// the place of the flipped bit; "it is 0 where the flag is 0".
+    #[inline]
+    pub fn place(&self) -> u8 {
+        self.flipped.unwrap_or(0)
+    }
 }
 
 /// "One clock", the bus output: the strobe kinds, each with its number.
@@ -334,10 +350,11 @@ impl Receiver {
     fn finish(&mut self, kind: Kind, number: u64) -> Fate {
         let decoded = decode(kind, number).expect("start and format are right");
         let verdict = self.verdict(kind, &decoded);
-        self.count_errors(verdict, decoded.corrected);
+        let fate = Fate { verdict, flipped: decoded.flipped, word: decoded.word };
+        self.count_errors(fate);
         self.status_bit_5 = verdict != Verdict::StopBit;
         self.act(verdict, decoded.fields);
-        Fate { verdict, corrected: decoded.corrected, word: decoded.word }
+        fate
     }
 
     /// "Fate of a finished frame": the first row that holds.
@@ -373,13 +390,14 @@ impl Receiver {
         self.stored.with(fields.sub_address.into(), fields.data)
     }
 
-    /// "Fate of a finished frame": the error counters, which stop at their tops.
-    fn count_errors(&mut self, verdict: Verdict, corrected: bool) {
-        match verdict {
-            Verdict::StopBit | Verdict::Uncorrectable | Verdict::FixedBit => {
+    /// "Fate of a finished frame": the error counters, which stop at their tops. Q-8, of verdicts 8
+    /// and 11: "Both raise the double counter".
+    fn count_errors(&mut self, fate: Fate) {
+        match fate.verdict {
+            Verdict::StopBit | Verdict::EvenSyndrome | Verdict::OddSyndrome | Verdict::FixedBit => {
                 self.double_errors = self.double_errors.saturating_add(1);
             }
-            _ if corrected => self.single_errors = self.single_errors.saturating_add(1),
+            _ if fate.corrected() => self.single_errors = self.single_errors.saturating_add(1),
             _ => {}
         }
     }

@@ -1,5 +1,5 @@
-//! "Stored lines" of document 01, with what Q-1 of document 02 adds: the report that the program
-//! `ttclines` makes, over a reader and a writer, and piece by piece into lent buffers.
+//! "Stored lines" of document 01, with what of document 02 add: the report that the
+//! program `ttclines` makes, over a reader and a writer, and piece by piece into lent buffers.
 //!
 //! The program is also the plain Rust one that the proved program is measured against. It takes a
 //! line from the reader's own buffer. Of a line that lies in several pieces it keeps no more

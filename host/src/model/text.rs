@@ -1,10 +1,10 @@
-//! "Stored lines" of document 01: the text of a reported line.
+//! "Stored lines" of document 01, with what Q-8 of document 02 adds: the text of a reported line.
 
 use super::{Fate, Kind, Refusal, Verdict};
 
-/// The longest line: a number of 20 digits, verdict 10, corrected flag, a word of 8 digits, three
-/// spaces and the line feed.
-pub(super) const LONGEST: usize = 20 + 2 + 1 + 8 + 3 + 1;
+/// The longest line: a number of 20 digits, verdict 10, corrected flag, a word of 8 digits, a place
+/// of 2, four spaces and the line feed.
+pub(super) const LONGEST: usize = 20 + 2 + 1 + 8 + 2 + 4 + 1;
 
 const DIGITS: &[u8; 16] = b"0123456789ABCDEF";
 
@@ -15,7 +15,7 @@ pub(super) struct Text {
 }
 
 impl Text {
-    /// "Line number, verdict, corrected flag, word"; "or line number, `!`, refusal".
+    /// "Line number, verdict, corrected flag, word", and the place; "or line number, `!`, refusal".
     #[inline]
     pub(super) fn of(line: u64, said: Result<(Kind, Fate), Refusal>) -> Text {
         let mut text = Text { bytes: [0; LONGEST], length: 0 };
@@ -52,19 +52,24 @@ impl Text {
         self.length = end;
     }
 
-    /// Verdict, corrected flag, "word (2 or 8 capital digits, `-` for 7 and 8)". The digits are
-    /// those of the line's own kind, the low ones of the word: at a receiver that held bits the
-    /// frame finished may be of the other kind. If none is, the word is 0.
+    /// Verdict, corrected flag, "word (2 or 8 capital digits, `-` for 7 and 8)", and by Q-8 for 11.
+    /// The digits are those of the line's own kind, the low ones of the word: at a receiver that
+    /// held bits the frame finished may be of the other kind. If none is, the word is 0. Q-8:
+    /// "prints that place as a last field for verdicts 1 to 6, 9 and 10".
     #[inline]
     fn fate(&mut self, kind: Kind, fate: Fate) {
         self.push(b' ');
         self.decimal(fate.verdict as u64);
         self.push(b' ');
-        self.push(DIGITS[usize::from(fate.corrected)]);
+        self.push(DIGITS[usize::from(fate.corrected())]);
         self.push(b' ');
-        match (fate.verdict, kind) {
-            (Verdict::StopBit | Verdict::Uncorrectable, _) => self.push(b'-'),
-            (_, kind) => self.hexadecimal(fate.word, kind.word_digits()),
+        match fate.verdict {
+            Verdict::StopBit | Verdict::EvenSyndrome | Verdict::OddSyndrome => self.push(b'-'),
+            _ => self.hexadecimal(fate.word, kind.word_digits()),
+        }
+        if matches!(fate.verdict as u8, 1..=6 | 9 | 10) {
+            self.push(b' ');
+            self.decimal(fate.place().into());
         }
     }
 

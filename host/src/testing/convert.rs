@@ -46,7 +46,8 @@ pub fn decoded(decoded: model::Decoded) -> Decoded {
     Decoded {
         refusal: 0,
         verdict: decoded.verdict as u8,
-        corrected: decoded.corrected.into(),
+        corrected: decoded.flipped.is_some().into(),
+        place: decoded.flipped.unwrap_or(0),
         word: decoded.word,
         fields: fields(decoded.fields),
     }
@@ -74,10 +75,11 @@ pub fn outputs(outputs: model::Outputs) -> Outputs {
     Outputs {
         trigger: outputs.trigger.into(),
         missed: outputs.missed.into(),
-        strobe,
         number,
+        strobe,
         verdict: fate.verdict as u8,
-        corrected: fate.corrected.into(),
+        corrected: fate.corrected().into(),
+        place: fate.place(),
         word: fate.word,
     }
 }

@@ -1,4 +1,5 @@
-//! The examples of document 01, once, as data; and all of them on any library.
+//! The examples of document 01, as Q-1 and Q-8 of document 02 amend them, once, as data; and all of
+//! them on any library.
 
 use super::compare::Cases;
 use super::frame::Frame;
@@ -28,22 +29,23 @@ pub const RESET: Frame = Frame::of(Kind::Long, LONG_FRAMES[1].1);
 pub const CORRECTED: Frame = Frame::of(Kind::Short, 0x0095);
 
 /// "Examples to be proved", decodings: these "can't be corrected". The second is "one stray 0 in
-/// idle".
-pub const UNCORRECTABLE: [Frame; 2] =
+/// idle". Q-8: they "now get 11".
+pub const ODD_SYNDROMES: [Frame; 2] =
     [Frame::of(Kind::Short, 0x0039), Frame::of(Kind::Long, 0x1FF_FFFF_FFFF)];
 
 /// "Examples to be proved": settings and their bytes.
 pub const SETTINGS: [(u8, u8); 5] = [(0, 14), (1, 29), (15, 15), (30, 0), (239, 239)];
 
 /// "Stored lines": the lines of the program's input, and what it prints after the number of each.
+/// Q-8: "lines 2 and 6 get place 1, and lines 1, 5 and 7 place 0".
 pub const LINES: [(&str, &str); 8] = [
-    ("004F", "1 0 01"),
-    ("2097", "1 1 02"),
+    ("004F", "1 0 01 0"),
+    ("2097", "1 1 02 1"),
     ("004E", "7 0 -"),
     ("304F", "8 0 -"),
-    ("100150235AD", "2 0 00150235"),
-    ("180150235AD", "2 1 00150235"),
-    ("100190235B5", "5 0 00190235"),
+    ("100150235AD", "2 0 00150235 0"),
+    ("180150235AD", "2 1 00150235 1"),
+    ("100190235B5", "5 0 00190235 0"),
     ("4001", "! 12"),
 ];
 
@@ -62,7 +64,7 @@ pub const TRIGGERS: [Outputs; 5] = [
 
 /// A clock on which no frame finished.
 const fn bus(trigger: u8, missed: u8, strobe: u8, number: u16) -> Outputs {
-    Outputs { trigger, missed, strobe, number, verdict: 0, corrected: 0, word: 0 }
+    Outputs { trigger, missed, number, strobe, verdict: 0, corrected: 0, place: 0, word: 0 }
 }
 
 /// "Stored lines": the whole input of the program.
@@ -114,15 +116,21 @@ fn encodings(cases: &Cases, library: &dyn Library) {
     }
 }
 
+/// The bit that is wrong in 0095 is the last check bit.
 fn decodings(cases: &Cases, library: &dyn Library) {
-    let corrected =
-        Decoded { corrected: 1, word: 0x02, fields: fields(0, 0, 0, 0x02), ..Decoded::default() };
-    let uncorrectable = Decoded { verdict: VERDICT_UNCORRECTABLE, ..Decoded::default() };
-    let [short, long] = UNCORRECTABLE.map(|frame| frame.number);
+    let corrected = Decoded {
+        corrected: 1,
+        place: PLACES_SHORT,
+        word: 0x02,
+        fields: fields(0, 0, 0, 0x02),
+        ..Decoded::default()
+    };
+    let odd_syndrome = Decoded { verdict: VERDICT_ODD_SYNDROME, ..Decoded::default() };
+    let [short, long] = ODD_SYNDROMES.map(|frame| frame.number);
     let answer = library.decode_short(CORRECTED.number);
     cases.same(CORRECTED, answer, corrected);
-    cases.same(short, library.decode_short(short), uncorrectable);
-    cases.same(long, library.decode_long(long), uncorrectable);
+    cases.same(short, library.decode_short(short), odd_syndrome);
+    cases.same(long, library.decode_long(long), odd_syndrome);
 }
 
 fn settings(cases: &Cases, library: &dyn Library) {

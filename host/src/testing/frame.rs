@@ -1,8 +1,9 @@
-//! Frames as bits to be sent, and the one way to send them.
+//! Frames as bits to be sent, the one way to send them, and the one to decode them.
 
 use super::library::Library;
 use crate::model::{self, block, Fields, Kind};
-use crate::sys::{ClockAnswer, Held, Receiver};
+use crate::sys::{ClockAnswer, Decoded, Held, Receiver};
+use std::ops::RangeInclusive;
 
 /// Q-1 of document 02: so many ones in a row, after which any receiver waits.
 pub const RUN: u8 = 41;
@@ -41,6 +42,21 @@ impl Frame {
         Frame::of(Kind::Long, model::encode_word(word))
     }
 
+    /// The frame of this kind with these data or word bits.
+    pub fn encoded(kind: Kind, data: u32) -> Frame {
+        match kind {
+            Kind::Short => Frame::short(data as u8),
+            Kind::Long => Frame::word(data),
+        }
+    }
+
+    /// The data or word bits of a whole frame as they are in it.
+    pub fn data(self) -> u32 {
+        let kind = self.kind();
+        let after_check = self.number >> kind.check_bits() >> 1;
+        (after_check & ((1 << kind.data_bits()) - 1)) as u32
+    }
+
     /// So many ones, which are idle; no frame.
     pub const fn ones(count: u8) -> Frame {
         Frame { number: (1u64 << count) - 1, length: count }
@@ -63,6 +79,24 @@ impl Frame {
     /// With these bits flipped.
     pub fn flipped(self, bits: u64) -> Frame {
         Frame { number: self.number ^ bits, ..self }
+    }
+
+    /// Q-8 of document 02: the places of the protected bits of a whole frame. They count "the
+    /// frame's bits after the format bit, in the order sent".
+    pub fn places(self) -> RangeInclusive<u8> {
+        1..=self.kind().protected_bits()
+    }
+
+    /// The protected bit at this place, to be flipped.
+    pub fn at(self, place: u8) -> u64 {
+        1 << (self.length - 2 - place)
+    }
+
+    /// The place of the first bit of these in the order sent, which is a protected one.
+    pub fn place_of(self, bits: u64) -> u8 {
+        let sent = Frame { number: bits, ..self };
+        let after_format = sent.bits().skip(2);
+        1 + after_format.take_while(|&bit| bit == 0).count() as u8
     }
 
     /// The first bits, so many.
@@ -93,6 +127,15 @@ impl Frame {
             *last |= block::byte(last_trigger, 0);
         }
         block
+    }
+}
+
+/// What a library says of a whole frame without a receiver.
+#[track_caller]
+pub fn decode(library: &dyn Library, frame: Frame) -> Decoded {
+    match frame.kind() {
+        Kind::Short => library.decode_short(frame.number),
+        Kind::Long => library.decode_long(frame.number),
     }
 }
 

@@ -14,6 +14,8 @@ enum Sort {
     Clean,
     OneFlip,
     TwoFlips,
+    /// Three flips up to all protected bits.
+    Storm,
     StopBit,
     FixedBit,
     /// Any bits after a right start and format.
@@ -29,7 +31,7 @@ enum Sort {
 /// How frequent each sort of line is, and how rare RESET.
 #[derive(Clone, Copy)]
 pub struct Mix {
-    weights: [(Sort, u64); 11],
+    weights: [(Sort, u64); 12],
     habit: Habit,
 }
 
@@ -39,6 +41,7 @@ pub const EVERY_KIND: Mix = Mix {
         (Sort::Clean, 300),
         (Sort::OneFlip, 200),
         (Sort::TwoFlips, 80),
+        (Sort::Storm, 60),
         (Sort::StopBit, 60),
         (Sort::FixedBit, 60),
         (Sort::AnyBits, 60),
@@ -54,9 +57,10 @@ pub const EVERY_KIND: Mix = Mix {
 /// Most lines are clean frames, and all others occur.
 pub const MOSTLY_CLEAN: Mix = Mix {
     weights: [
-        (Sort::Clean, 7_600),
+        (Sort::Clean, 7_500),
         (Sort::OneFlip, 800),
         (Sort::TwoFlips, 300),
+        (Sort::Storm, 100),
         (Sort::StopBit, 200),
         (Sort::FixedBit, 100),
         (Sort::AnyBits, 200),
@@ -74,7 +78,7 @@ impl Mix {
     pub fn text(&self) -> String {
         let sum: u64 = self.weights.iter().map(|(_, weight)| weight).sum();
         let sort = |(sort, weight): &(Sort, u64)| format!("{sort:?} {weight}");
-        let (frames, others) = self.weights.split_at(6);
+        let (frames, others) = self.weights.split_at(7);
         let frames: Vec<String> = frames.iter().map(sort).collect();
         let others: Vec<String> = others.iter().map(sort).collect();
         let (frames, others) = (frames.join(", "), others.join(", "));
@@ -147,6 +151,7 @@ fn frame(random: &mut Random, sort: Sort, habit: Habit) -> Frame {
     frame.flipped(match sort {
         Sort::OneFlip => traffic::protected(random, frame, 1),
         Sort::TwoFlips => traffic::protected(random, frame, 2),
+        Sort::Storm => traffic::storm(random, frame, 3),
         Sort::StopBit if random.once_in(2) => traffic::protected(random, frame, 1) | 1,
         Sort::StopBit => 1,
         Sort::AnyBits => random.below(1 << (frame.length - 2)),

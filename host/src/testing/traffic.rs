@@ -31,13 +31,15 @@ enum Damage {
     OneFlip,
     TwoFlips,
     ThreeFlips,
+    /// Four flips up to all protected bits.
+    Storm,
     Stop,
     FlipAndStop,
     Start,
     Format,
 }
 
-const DAMAGE: &str = "damage (none, 1, 2, 3 flips, stop, flip and stop, start, format)";
+const DAMAGE: &str = "damage (none, 1, 2, 3, more flips, stop, flip and stop, start, format)";
 
 impl Damage {
     /// The receiver may find a bad stop bit, in this frame or in bits that it takes for one.
@@ -48,14 +50,15 @@ impl Damage {
 
 /// Clean frames and one flip are the most frequent, so that every verdict is.
 fn damage(random: &mut Random) -> Damage {
-    match random.below(24) {
+    match random.below(26) {
         0..=9 => Damage::None,
         10..=16 => Damage::OneFlip,
         17 | 18 => Damage::TwoFlips,
-        19 => Damage::ThreeFlips,
-        20 => Damage::Stop,
-        21 => Damage::FlipAndStop,
-        22 => Damage::Start,
+        19 | 20 => Damage::ThreeFlips,
+        21 => Damage::Storm,
+        22 => Damage::Stop,
+        23 => Damage::FlipAndStop,
+        24 => Damage::Start,
         _ => Damage::Format,
     }
 }
@@ -124,12 +127,20 @@ pub fn protected(random: &mut Random, frame: Frame, count: u32) -> u64 {
     bits
 }
 
+/// At least so many protected bits of the frame, up to all of them.
+pub fn storm(random: &mut Random, frame: Frame, least: u32) -> u64 {
+    let most = u32::from(frame.kind().protected_bits());
+    let more = random.below(u64::from(most - least) + 1) as u32;
+    protected(random, frame, least + more)
+}
+
 fn damaged(random: &mut Random, frame: Frame, damage: Damage) -> Frame {
     frame.flipped(match damage {
         Damage::None => 0,
         Damage::OneFlip => protected(random, frame, 1),
         Damage::TwoFlips => protected(random, frame, 2),
         Damage::ThreeFlips => protected(random, frame, 3),
+        Damage::Storm => storm(random, frame, 4),
         Damage::Stop => 1,
         Damage::FlipAndStop => protected(random, frame, 1) | 1,
         Damage::Start => 1 << (frame.length - 1),

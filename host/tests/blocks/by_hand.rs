@@ -3,7 +3,7 @@
 use crate::driver::Driver;
 use ttcrx_host::model::Kind;
 use ttcrx_host::sys::{CODE_CORRECTED, CODE_MISSED, CODE_TRIGGER};
-use ttcrx_host::testing::example::{CORRECTED, LONG_FRAMES, RESET, UNCORRECTABLE};
+use ttcrx_host::testing::example::{CORRECTED, LONG_FRAMES, ODD_SYNDROMES, RESET};
 use ttcrx_host::testing::frame::{Frame, RUN};
 
 const MISSED: u32 = CODE_TRIGGER + CODE_MISSED;
@@ -33,7 +33,7 @@ fn frames() {
         // 02 corrected clears the event counter.
         (CORRECTED, 0, [15, 15, 7, 1 + CODE_CORRECTED, 2]),
         (CORRECTED, 1, [15, 31, 0, 1 + both, 2]),
-        (UNCORRECTABLE[0], 1, [15, 47, 0, 8 + CODE_TRIGGER, 0]),
+        (ODD_SYNDROMES[0], 1, [15, 47, 0, 11 + CODE_TRIGGER, 0]),
         // 004E has stop bit 0.
         (short(0x004E), 0, [15, 63, 1, 7, 0]),
     ];

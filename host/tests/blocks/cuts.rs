@@ -36,7 +36,7 @@ fn code(outputs: &Outputs) -> u32 {
 }
 
 /// The clocks done singly by the library itself.
-fn singly(mut state: Receiver, block: &[u8]) -> Done {
+pub fn singly(mut state: Receiver, block: &[u8]) -> Done {
     let mut all = Vec::new();
     for (place, bits) in (0..).zip(block) {
         let before = state.core.counters;

@@ -1,5 +1,5 @@
 //! `ttcrx_run_block` and `ttcrx_filled_length`, Q-3 of document 02, against the model's single
-//! clocks: states, answers and whole buffers. are tried in blocks too.
+//! clocks: states, answers and whole buffers. are tried in blocks too.
 
 mod by_hand;
 mod cuts;
@@ -7,6 +7,7 @@ mod driver;
 mod empty;
 mod filled;
 mod no_setting;
+mod places;
 mod quiet;
 mod refusals;
 mod runs;

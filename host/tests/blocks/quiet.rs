@@ -148,7 +148,7 @@ fn long_tails() {
         let codes = records.iter().map(|record| record.code & CODE_VERDICT);
         let found: Vec<u32> = codes.filter(|&code| code != 0).collect();
         driver.both.same(state, (found.len(), found[0]), (2, VERDICT_STOP_BIT.into()));
-        verdicts.seen([verdict::last_digit(found[1] as u8)]);
+        verdicts.seen([verdict::of_good(found[1] as u8)]);
     }
     assert_seen(&[&verdicts]);
     driver.both.at_least(3_000 * 8);

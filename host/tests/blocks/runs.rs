@@ -111,10 +111,10 @@ impl Runs {
     }
 }
 
-/// A fresh receiver but for its counters, which are near their tops.
+/// A fresh receiver but for its counters, which are at or near their tops.
 fn near_the_tops(id: u16) -> Receiver {
     let mut state = ttcrx::fresh(id, 5).receiver;
-    state.core.counters = Counters { bunch: 4000, event: (1 << 24) - 20 };
+    state.core.counters = Counters { bunch: 4000, event: (1 << 24) - 1 };
     state.core.errors = Errors { single_errors: 65_500, double_errors: 240, status5: 0 };
     state
 }

@@ -31,9 +31,9 @@ impl Records {
             match verdict {
                 VERDICT_NONE => self.triggers.seen([trigger]),
                 _ if verdict::is_good(verdict) => {
-                    self.good.seen([verdict::last_digit(verdict), corrected, trigger]);
+                    self.good.seen([verdict::of_good(verdict), corrected, trigger]);
                 }
-                _ => self.dropped.seen([verdict, trigger]),
+                _ => self.dropped.seen([verdict::of_dropped(verdict), trigger]),
             }
             if record.bunch == 4095 {
                 self.tops.seen([0]);

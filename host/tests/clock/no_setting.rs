@@ -1,6 +1,8 @@
 //! Q-4 of document 02, "No delay byte without a setting": clocks that finish internal frames for
 //! registers 0 and 1. What is expected is written down without the model.
 
+use crate::finishing::{double_error, effect, finishes, nothing, single_error, word};
+use crate::finishing::{Row, ALL, ID, OTHER};
 use crate::states::edge_cores;
 use ttcrx_host::model::{Fields, Kind};
 use ttcrx_host::sys::*;
@@ -9,14 +11,6 @@ use ttcrx_host::testing::compare::Both;
 use ttcrx_host::testing::coverage::{assert_seen, Tally};
 use ttcrx_host::testing::frame::{send, wanting, Frame, RUN};
 use ttcrx_host::testing::library::{Library, Model};
-
-/// The receiver's own address, that of every receiver, and another.
-const ID: u16 = 5;
-const ALL: u16 = ADDRESS_ALL;
-const OTHER: u16 = 6;
-
-/// Address, E, sub-address and data of a frame, and its verdict at ID 5.
-type Row = (u16, u8, u8, u8, u8);
 
 const ROWS: [Row; 42] = [
     // 239 is the last byte of a setting.
@@ -68,61 +62,6 @@ const ROWS: [Row; 42] = [
     (ALL, 0, 6, 255, VERDICT_RESET),
 ];
 
-/// The word of these fields, with the fixed bit.
-fn word(address: u16, e: u8, sub_address: u8, data: u8) -> u32 {
-    let upper = u32::from(address) << 18 | u32::from(e) << 17 | 1 << 16;
-    upper | u32::from(sub_address) << 8 | u32::from(data)
-}
-
-/// Verdict, corrected flag and word that a clock shows.
-type Said = (u8, u8, u32);
-
-/// The last bit of a frame that arrives so. Answer and state are those of an idle clock, but for
-/// what is said of the frame, status bit 5, and this change.
-#[track_caller]
-fn finishes(
-    both: &Both,
-    (core, trigger): (Core, u8),
-    arrived: Frame,
-    (verdict, corrected, word): Said,
-    change: impl Fn(&mut Receiver),
-) {
-    let waiting = Receiver { core, held: Held::default() };
-    let mut expected = both.clock(waiting, trigger, 1);
-    expected.outputs = Outputs { verdict, corrected, word, ..expected.outputs };
-    expected.receiver.core.errors.status5 = 1;
-    change(&mut expected.receiver);
-    let held = arrived.front(arrived.length - 1).held();
-    let last = (arrived.number & 1) as u8;
-    let answer = both.clock(Receiver { core, held }, trigger, last);
-    both.same((core, arrived, trigger), answer, expected);
-}
-
-fn nothing(_: &mut Receiver) {}
-
-fn single_error(receiver: &mut Receiver) {
-    let single = &mut receiver.core.errors.single_errors;
-    *single = single.saturating_add(1);
-}
-
-fn double_error(receiver: &mut Receiver) {
-    let double = &mut receiver.core.errors.double_errors;
-    *double = double.saturating_add(1);
-}
-
-/// The effect of a row.
-fn effect((_, _, sub_address, data, verdict): Row, receiver: &mut Receiver) {
-    let Core { ids, settings, .. } = &mut receiver.core;
-    match (verdict, sub_address) {
-        (VERDICT_RESET, _) => *receiver = Model.fresh(ids.id, ids.i2c).receiver,
-        (VERDICT_STORED, 0) => settings.fine1 = data,
-        (VERDICT_STORED, 1) => settings.fine2 = data,
-        (VERDICT_STORED, 2) => settings.coarse = data,
-        (VERDICT_STORED, _) => settings.control = data,
-        _ => {}
-    }
-}
-
 /// The frame of a row, clean, with a wrong check bit, with wrong data bits, and with a wrong bit of
 /// the address.
 fn finishes_row(both: &Both, at: (Core, u8), row: Row) {
@@ -130,8 +69,9 @@ fn finishes_row(both: &Both, at: (Core, u8), row: Row) {
     let frame = Frame::long(Fields { address, e, sub_address, data });
     let word = word(address, e, sub_address, data);
     finishes(both, at, frame, (verdict, 0, word), |receiver| effect(row, receiver));
-    for flip in [1 << 1, 1 << 12, 1 << 15, 1 << 39] {
-        finishes(both, at, frame.flipped(flip), (verdict, 1, word), |receiver| {
+    for place in [39, 28, 25, 1] {
+        let arrived = frame.flipped(frame.at(place));
+        finishes(both, at, arrived, (verdict, place, word), |receiver| {
             single_error(receiver);
             effect(row, receiver);
         });
@@ -175,12 +115,12 @@ fn every_flip() {
     for (word, frame) in frames_without_a_setting() {
         let mut at = || states.next().expect("an endless cycle");
         finishes(&both, at(), frame, (VERDICT_NO_SETTING, 0, word), nothing);
-        for first in 1..=Kind::Long.protected_bits() {
-            let one = frame.flipped(1 << first);
-            finishes(&both, at(), one, (VERDICT_NO_SETTING, 1, word), single_error);
-            for second in first + 1..=Kind::Long.protected_bits() {
-                let two = one.flipped(1 << second);
-                finishes(&both, at(), two, (VERDICT_UNCORRECTABLE, 0, 0), double_error);
+        for first in frame.places() {
+            let one = frame.flipped(frame.at(first));
+            finishes(&both, at(), one, (VERDICT_NO_SETTING, first, word), single_error);
+            for second in 1..first {
+                let two = one.flipped(frame.at(second));
+                finishes(&both, at(), two, (VERDICT_EVEN_SYNDROME, 0, 0), double_error);
             }
         }
     }
@@ -203,7 +143,7 @@ fn the_corrected_data_decide() {
         let word = word(ID, 0, register, data);
         for bit in 0..8 {
             let arrived = Frame::word(word).flipped(1 << (8 + bit));
-            finishes(&both, (core, 0), arrived, (verdict, 1, word), |receiver| {
+            finishes(&both, (core, 0), arrived, (verdict, 32 - bit, word), |receiver| {
                 single_error(receiver);
                 effect(row, receiver);
             });
@@ -247,9 +187,9 @@ fn the_single_error_counter() {
         for (before, after) in [(0, 1), (255, 256), (65534, 65535), (65535, 65535)] {
             let mut core = edge_cores()[0];
             core.errors = Errors { single_errors: before, double_errors: 255, status5: 0 };
-            let said = |corrected| (VERDICT_NO_SETTING, corrected, word);
+            let said = |place| (VERDICT_NO_SETTING, place, word);
             finishes(&both, (core, 0), frame, said(0), nothing);
-            finishes(&both, (core, 1), frame.flipped(2), said(1), |receiver| {
+            finishes(&both, (core, 1), frame.flipped(2), said(39), |receiver| {
                 receiver.core.errors.single_errors = after;
             });
         }

@@ -18,7 +18,7 @@ const EVENTS: u32 = 1 << 24;
 fn random_states_with_random_bits() {
     let both = Both::of("clocks from random well-formed states");
     let mut random = Random::new(40);
-    let mut verdicts = [0; 11];
+    let mut verdicts = [0; 12];
     for _ in 0..2_000_000 {
         let state = states::well_formed(&mut random);
         both.same(state, both.well_formed(state), 1);
@@ -110,12 +110,13 @@ fn error_tops(core: Core, status5: u8) -> [Core; 3] {
     })
 }
 
-/// All but the last bit of each frame, clean, with one and with two flips.
+/// All but the last bit of each frame, clean, with one, with two and with all flips, and with
+/// those of syndrome 31, which belongs to no bit.
 fn held_bits() -> Vec<Held> {
     let mut held = Vec::new();
     for frame in frames() {
         let (first, last) = (1 << (frame.length - 3), 2);
-        let flips = [0, last, first, first | last];
+        let flips = [0, last, first, first | last, 2 * first - 2, 31 << 1];
         held.extend(flips.map(|bits| frame.flipped(bits).front(frame.length - 1).held()));
     }
     held
@@ -126,7 +127,7 @@ fn held_bits() -> Vec<Held> {
 fn last_bits_at_the_edges() {
     let both = Both::of("last bits of frames of every fate at the edges");
     let cores = edge_cores();
-    let mut verdicts = [0; 11];
+    let mut verdicts = [0; 12];
     for held in held_bits() {
         for &core in &cores {
             for (trigger, data) in BITS {
@@ -139,7 +140,7 @@ fn last_bits_at_the_edges() {
         }
     }
     assert!(verdicts[1..].iter().all(|&count| count > 0), "{verdicts:?}");
-    both.at_least(2 * 211 * 4 * 108 * 4);
+    both.at_least(2 * 211 * 6 * 108 * 4);
 }
 
 /// After 41 ones the receiver waits. It has finished one frame on the way if it held a bit, else

@@ -4,9 +4,10 @@
 use crate::runner::{Run, Runner};
 use crate::sent::Sent;
 use crate::tallies::Tallies;
+use std::iter;
 use ttcrx_host::model::Fields;
 use ttcrx_host::sys::{Held, Outputs, Receiver};
-use ttcrx_host::sys::{VERDICT_NO_SETTING, VERDICT_RESET, VERDICT_UNCORRECTABLE};
+use ttcrx_host::sys::{VERDICT_EVEN_SYNDROME, VERDICT_NO_SETTING, VERDICT_RESET};
 use ttcrx_host::testing::calls::{carrying, Call, Mix};
 use ttcrx_host::testing::frame::Frame;
 use ttcrx_host::testing::library::Library;
@@ -23,7 +24,7 @@ pub struct List {
 }
 
 impl List {
-    fn any(random: &mut Random) -> List {
+    pub fn any(random: &mut Random) -> List {
         let start = waiting(random);
         List::from(random, start)
     }
@@ -62,23 +63,21 @@ pub struct Frames<'a> {
 }
 
 /// What the last clock shows, and the state after it.
-type End = (Outputs, Receiver);
+pub type End = (Outputs, Receiver);
 
-/// Verdict and effect of the table's row, the word, flag 0; the rest is the idle list's.
-fn clean(list: &List, (outputs, state): End) -> End {
-    let outputs = Outputs {
-        verdict: list.sent.row(list.start.core.ids.id),
-        corrected: 0,
-        word: list.sent.word(),
-        ..outputs
-    };
-    (outputs, list.sent.effect(state))
+/// Verdict and effect of the table's row for this frame, the word, flag and place 0; the rest is the
+/// idle list's.
+pub fn clean(sent: Sent, (outputs, state): End) -> End {
+    let verdict = sent.row(state.core.ids.id);
+    let outputs = Outputs { verdict, corrected: 0, place: 0, word: sent.word(), ..outputs };
+    (outputs, sent.effect(state))
 }
 
 /// As clean, "apart from the corrected flag and the single error counter (one higher unless full,
-/// or cleared by RESET)".
-fn one_flip((mut outputs, mut state): End) -> End {
+/// or cleared by RESET)". "The place is excepted like the corrected flag": it is that of the flip.
+pub fn one_flip((mut outputs, mut state): End, place: u8) -> End {
     outputs.corrected = 1;
+    outputs.place = place;
     let single = &mut state.core.errors.single_errors;
     *single = match outputs.verdict {
         VERDICT_RESET => 0,
@@ -87,10 +86,10 @@ fn one_flip((mut outputs, mut state): End) -> End {
     (outputs, state)
 }
 
-/// Verdict 8 and else the outputs of the idle list; its state, "but with the double error counter
+/// This verdict and else the outputs of the idle list; its state, "but with the double error counter
 /// one higher unless full and status bit 5 at 1".
-fn two_flips((mut outputs, mut state): End) -> End {
-    outputs.verdict = VERDICT_UNCORRECTABLE;
+pub fn dropped((mut outputs, mut state): End, verdict: u8) -> End {
+    outputs.verdict = verdict;
     let errors = &mut state.core.errors;
     errors.double_errors = errors.double_errors.saturating_add(1);
     errors.status5 = 1;
@@ -107,27 +106,35 @@ impl<'a> Frames<'a> {
         self.runner.cases.at_least(count);
     }
 
-    /// The list idle, clean, and with each of these flips. Gives the verdict of the clean one.
-    pub fn list(&mut self, list: &List, flips: &[u64]) -> u8 {
+    /// The list with channel B idle.
+    pub fn idle(&mut self, list: &List) -> Run {
         let idle = self.runner.run(list.start, &list.idle);
         let waits = (idle.last().verdict, idle.end.held);
         self.runner.cases.same(list, waits, (0, Held::default()));
+        idle
+    }
+
+    /// The list idle, clean, and with each of these flips, one or two: "two flips always give 8".
+    /// Gives the verdict of the clean one.
+    pub fn list(&mut self, list: &List, flips: &[u64]) -> u8 {
+        let idle = self.idle(list);
         let idle_end = (idle.last(), idle.end);
-        let clean = clean(list, idle_end);
-        self.carries(list, 0, &idle, clean);
-        for &flipped in flips {
+        let clean = clean(list.sent, idle_end);
+        for flipped in iter::once(0).chain(flips.iter().copied()) {
             let expected = match flipped.count_ones() {
-                1 => one_flip(clean),
-                _ => two_flips(idle_end),
+                0 => clean,
+                1 => one_flip(clean, list.frame().place_of(flipped)),
+                _ => dropped(idle_end, VERDICT_EVEN_SYNDROME),
             };
             self.carries(list, flipped, &idle, expected);
+            self.tallies.frame(list.sent, flipped, &idle);
         }
         clean.0.verdict
     }
 
     /// The list with the bits of the frame, these flipped: "each clock before the last has verdict
     /// 0, and all outputs, bytes read and refusals before the last clock equal the idle list's".
-    fn carries(&mut self, list: &List, flipped: u64, idle: &Run, expected: End) {
+    pub fn carries(&mut self, list: &List, flipped: u64, idle: &Run, expected: End) {
         let calls = carrying(&list.idle, list.sent.frame().flipped(flipped));
         let run = self.runner.run(list.start, &calls);
         let cases = &self.runner.cases;
@@ -136,7 +143,6 @@ impl<'a> Frames<'a> {
         cases.same(input, finished, None);
         cases.same(input, run.before(), idle.before());
         cases.same(input, (run.last(), run.end), expected);
-        self.tallies.frame(list.sent, flipped, idle);
     }
 }
 

@@ -1,13 +1,14 @@
-//! "Demand 3, over lists of calls" of document 01, and of document 02 over such lists,
-//! as properties of any library: of the model, of the proved library, and of the latter with every
-//! answer compared with the model's. What is expected comes from the papers' words; the model's
-//! clock is not asked.
+//! "Demand 3, over lists of calls" of document 01, and of document 02 over such
+//! lists, as properties of any library: of the model, of the proved library, and of the latter with
+//! every answer compared with the model's. What is expected comes from the papers' words; the
+//! model's clock is not asked.
 
 mod frames;
 mod quiet;
 mod runner;
 mod sent;
 mod settings;
+mod storms;
 mod tallies;
 mod waits;
 
@@ -87,4 +88,21 @@ fn the_library_answers_like_the_model_and_keeps_settings() {
     let both = Both::of("calls of lists from fresh");
     settings::check(&both, 91, 3_000);
     both.at_least(2_000_000);
+}
+
+#[test]
+fn the_model_tells_storms() {
+    storms::check(&Model, 92, 10_000);
+}
+
+#[test]
+fn the_library_tells_storms() {
+    storms::check(&Proved, 92, 10_000);
+}
+
+#[test]
+fn the_library_answers_like_the_model_and_tells_storms() {
+    let both = Both::of("calls of lists that carry a frame with any number of flips");
+    storms::check(&both, 93, 10_000);
+    both.at_least(1_500_000);
 }

@@ -142,7 +142,7 @@ impl<'a> Lists<'a> {
         let frame = list.frame();
         let flips = [1, 2].map(|count| protected(&mut self.random, frame, count));
         let row = self.frames.list(&list, &flips);
-        self.tallies.after.seen([verdict::last_digit(row)]);
+        self.tallies.after.seen([verdict::of_good(row)]);
     }
 
     fn list(&mut self) {

@@ -1,7 +1,7 @@
 //! Properly encoded frames, and what document 01's table, amended by Q-4 of document 02, says of
 //! their fields.
 
-use ttcrx_host::model::Fields;
+use ttcrx_host::model::{Fields, Kind};
 use ttcrx_host::sys::*;
 use ttcrx_host::testing::frame::Frame;
 use ttcrx_host::testing::library::{Library, Model};
@@ -21,6 +21,21 @@ impl Sent {
         match random.once_in(3) {
             true => Sent::Short(random.byte()),
             false => Sent::Long(traffic::fields(random, id, LIVELY)),
+        }
+    }
+
+    /// The frame of this kind with this word; none without the fixed bit.
+    pub fn of(kind: Kind, word: u32) -> Option<Sent> {
+        let [data, sub_address, _, _] = word.to_le_bytes();
+        match (kind, word >> 16 & 1) {
+            (Kind::Short, _) => Some(Sent::Short(data)),
+            (Kind::Long, 0) => None,
+            (Kind::Long, _) => Some(Sent::Long(Fields {
+                address: (word >> 18) as u16,
+                e: (word >> 17 & 1) as u8,
+                sub_address,
+                data,
+            })),
         }
     }
 

@@ -2,10 +2,11 @@
 
 use crate::runner::Run;
 use crate::sent::Sent;
-use ttcrx_host::model::Fields;
-use ttcrx_host::sys::{Errors, VERDICT_NO_SETTING, VERDICT_STORED};
+use ttcrx_host::model::{Fields, Kind};
+use ttcrx_host::sys::{Errors, PLACES_LONG, PLACES_SHORT, VERDICT_NO_SETTING, VERDICT_STORED};
 use ttcrx_host::tallies;
-use ttcrx_host::testing::verdict::{last_digit, GOOD as ROW};
+use ttcrx_host::testing::frame::Frame;
+use ttcrx_host::testing::verdict::{of_good, GOOD as ROW};
 
 const FLIPS: (&str, u8, u8) = ("flips", 0, 2);
 const TRIGGER: (&str, u8, u8) = ("last trigger", 0, 1);
@@ -24,8 +25,8 @@ tallies! {
         status5: [("status bit 5 of the idle list", 0, 1), FLIPS],
         single: [ROW, ("single errors at one flip (0, more, 65534, full)", 0, 3)],
         double: [ROW, ("double errors at two flips (0, more, 254, full)", 0, 3)],
-        short_flips: [OF_TWO, ("place in a short frame", 1, 13)],
-        long_flips: [OF_TWO, ("place in a long frame", 1, 39)],
+        short_flips: [OF_TWO, ("place in a short frame", 1, PLACES_SHORT)],
+        long_flips: [OF_TWO, ("place in a long frame", 1, PLACES_LONG)],
     }
 }
 
@@ -36,7 +37,7 @@ impl Tallies {
         let id = idle.end.core.ids.id;
         let row = sent.row(id);
         let (trigger, left) = (idle.last().trigger, idle.before_last.core.sequence.left);
-        self.rows.seen([last_digit(row), flips, trigger, left]);
+        self.rows.seen([of_good(row), flips, trigger, left]);
         match sent {
             Sent::Short(data) => self.broadcasts.seen([data % 4, flips, trigger, left]),
             Sent::Long(fields) => self.long(fields, id, row, flips),
@@ -44,7 +45,7 @@ impl Tallies {
         let errors = idle.end.core.errors;
         self.status5.seen([errors.status5, flips]);
         self.errors(row, flips, errors);
-        self.places(sent, flipped);
+        self.places(sent.frame(), flipped);
     }
 
     fn long(&mut self, fields: Fields, id: u16, row: u8, flips: u8) {
@@ -67,27 +68,31 @@ impl Tallies {
     }
 
     fn errors(&mut self, row: u8, flips: u8, errors: Errors) {
-        let place = |number: u16, full: u16| match full - number {
-            0 => 3,
-            1 => 2,
-            _ if number == 0 => 0,
-            _ => 1,
-        };
         let (single, double) = (errors.single_errors, errors.double_errors);
         match flips {
-            1 => self.single.seen([last_digit(row), place(single, 65535)]),
-            2 => self.double.seen([last_digit(row), place(double.into(), 255)]),
+            1 => self.single.seen([of_good(row), edge(single, 65535)]),
+            2 => self.double.seen([of_good(row), edge(double.into(), 255)]),
             _ => {}
         }
     }
 
-    fn places(&mut self, sent: Sent, flipped: u64) {
+    fn places(&mut self, frame: Frame, flipped: u64) {
         let two = (flipped.count_ones() == 2).into();
-        for place in (1..40).filter(|place| flipped >> place & 1 == 1) {
-            match sent {
-                Sent::Short(_) => self.short_flips.seen([two, place]),
-                Sent::Long(_) => self.long_flips.seen([two, place]),
+        for place in frame.places().filter(|&place| flipped & frame.at(place) != 0) {
+            match frame.kind() {
+                Kind::Short => self.short_flips.seen([two, place]),
+                Kind::Long => self.long_flips.seen([two, place]),
             }
         }
+    }
+}
+
+/// Where a counter with this top is: at 0, between, one below the top, full.
+pub fn edge(number: u16, full: u16) -> u8 {
+    match full - number {
+        0 => 3,
+        1 => 2,
+        _ if number == 0 => 0,
+        _ => 1,
     }
 }

@@ -19,7 +19,7 @@ fn the_start() {
 }
 
 /// Buffers too short for a line, just long enough for one, and longer.
-const LENGTHS: [usize; 14] = [0, 1, 33, 34, 35, 36, 40, 41, 42, 65, 66, 67, 68, 300];
+const LENGTHS: [usize; 14] = [0, 1, 36, 37, 38, 39, 43, 44, 45, 68, 69, 70, 71, 300];
 
 #[test]
 fn reports_of_every_kind() {
@@ -45,10 +45,10 @@ fn line_numbers_of_20_digits() {
     let report = Report { lines: u64::MAX - 2, ..ttcrx::report_start() };
     let mut driver = Driver::of(&both, 0, report);
     driver.piece(b"100150235AD\n1001710AAB7\n004F\n0001\n", LONGEST_LINE);
-    let expected = "18446744073709551614 2 0 00150235\n\
-                    18446744073709551615 4 0 001710AA\n\
-                    0 1 0 01\n\
-                    1 1 0 00\n";
+    let expected = "18446744073709551614 2 0 00150235 0\n\
+                    18446744073709551615 4 0 001710AA 0\n\
+                    0 1 0 01 0\n\
+                    1 1 0 00 0\n";
     both.same("text", driver.text().as_str(), expected);
     both.same("lines", driver.report.lines, 1);
     both.at_least(10);

@@ -1,14 +1,29 @@
 //! Reports that are fed, each call compared with the model's.
 
-use ttcrx_host::sys::{Report, Reported, LONGEST_LINE};
+use ttcrx_host::sys::{Receiver, Report, Reported, LONGEST_END, LONGEST_LINE};
 use ttcrx_host::testing::compare::Both;
 use ttcrx_host::testing::lent::Lent;
 use ttcrx_host::testing::library::Library;
 use ttcrx_host::testing::random::Random;
+use ttcrx_host::ttcrx;
 
 /// The answer of a call that did nothing, and wants so much room.
 pub fn untouched(report: Report, room_wanted: usize) -> Reported {
     Reported { report, room_wanted, ..Reported::default() }
+}
+
+/// The whole report of an input with this receiver, and the receiver after it.
+#[track_caller]
+pub fn said(
+    both: &Both<'static>,
+    receiver: Receiver,
+    input: impl AsRef<[u8]>,
+) -> (String, Receiver) {
+    let report = Report { receiver, ..ttcrx::report_start() };
+    let mut driver = Driver::of(both, 0, report);
+    driver.piece(input.as_ref(), LONGEST_END);
+    driver.end(LONGEST_END);
+    (driver.text(), driver.report.receiver)
 }
 
 /// A report that is fed, and all that it has written.

@@ -36,33 +36,39 @@ fn says(both: &Both<'static>, report: Report, expected: &str) {
 #[test]
 fn ends_by_hand() {
     let both = Both::of("ends written out by hand");
-    let ends: [(u64, LinePart, &str); 13] = [
+    let ends: [(u64, LinePart, &str); 15] = [
         (0, front(b""), "end 0 0 0 0\n"),
         (9, front(b""), "end 0 0 0 0\n"),
-        (9, front(b"2097"), "10 1 1 02\nend 1 0 0 16\n"),
+        (9, front(b"2097"), "10 1 1 02 1\nend 1 0 0 16\n"),
         (0, front(b"304F"), "1 8 0 -\nend 0 1 0 16\n"),
+        (0, front(b"0039"), "1 11 0 -\nend 0 1 0 16\n"),
+        (0, front(b"10000000003"), "1 9 0 00000000 0\nend 0 1 0 42\n"),
         // 41 ones after the last line too.
         (0, front(b"004E"), "1 7 0 -\nend 0 1 0 57\n"),
         (1, front(b"100150235AC"), "2 7 0 -\nend 0 1 0 83\n"),
         (0, front(b"100"), "1 ! 10\nend 0 0 0 0\n"),
         (u64::MAX, front(b"20G7"), "0 ! 11\nend 0 0 0 0\n"),
         (7, front(b"4001"), "8 ! 12\nend 0 0 0 0\n"),
-        (u64::MAX - 1, front(b"100150235AD"), "18446744073709551615 2 0 00150235\nend 0 0 0 42\n"),
+        (
+            u64::MAX - 1,
+            front(b"100150235AD"),
+            "18446744073709551615 2 0 00150235 0\nend 0 0 0 42\n",
+        ),
         (0, TOO_LONG, "1 ! 10\nend 0 0 0 0\n"),
         // Fine delay F3, clean and with a wrong check bit: it belongs to no setting.
-        (0, front(b"1001500F387"), "1 10 0 001500F3\nend 0 0 0 42\n"),
-        (9, front(b"1001500F385"), "10 10 1 001500F3\nend 1 0 0 42\n"),
+        (0, front(b"1001500F387"), "1 10 0 001500F3 0\nend 0 0 0 42\n"),
+        (9, front(b"1001500F385"), "10 10 1 001500F3 39\nend 1 0 0 42\n"),
     ];
     for (lines, part, expected) in ends {
         let receiver = report_start().receiver;
         let report = Report { receiver, lines, part };
         says(&both, report, expected);
     }
-    both.at_least(13 * 5);
+    both.at_least(15 * 5);
 }
 
 /// The greatest numbers: those of a receiver that waits, and any of one that is ill-formed. The
-/// longest text has 63 bytes: the longest line is never that of an ill-formed receiver.
+/// longest text has 66 bytes: the longest line is never that of an ill-formed receiver.
 #[test]
 fn greatest_numbers() {
     let both = Both::of("ends with the greatest numbers");
@@ -70,10 +76,11 @@ fn greatest_numbers() {
     report.lines = u64::MAX - 1;
     report.receiver.core.errors = Errors { single_errors: 65535, double_errors: 255, status5: 1 };
     let events = (1 << 24) - 1;
-    let ends: [(u16, u32, &[u8], &str, &str); 5] = [
-        (4079, events, b"2097", "1 1 02", "0 4095"),
-        (4079, events, b"0001", "1 0 00", "16777215 4095"),
-        (4053, events, b"1001500F387", "10 0 001500F3", "16777215 4095"),
+    let ends: [(u16, u32, &[u8], &str, &str); 6] = [
+        (4079, events, b"2097", "1 1 02 1", "0 4095"),
+        (4079, events, b"0001", "1 0 00 0", "16777215 4095"),
+        (4053, events, b"1001500F387", "10 0 001500F3 0", "16777215 4095"),
+        (4053, events, b"1001500F385", "10 1 001500F3 39", "16777215 4095"),
         (65535, u32::MAX, b"0001", "! 2", "4294967295 65535"),
         (65535, u32::MAX, b"1001500F387", "! 2", "4294967295 65535"),
     ];
@@ -85,6 +92,6 @@ fn greatest_numbers() {
         says(&both, report, &expected);
         longest = longest.max(expected.len());
     }
-    both.same("longest", longest, 63);
-    both.at_least(5 * 5 + 1);
+    both.same("longest", longest, 66);
+    both.at_least(6 * 5 + 1);
 }

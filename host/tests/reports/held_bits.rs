@@ -6,7 +6,8 @@ use crate::driver::Driver;
 use crate::inputs::{input, within_a_frame};
 use ttcrx_host::model::Kind;
 use ttcrx_host::sys::{Held, Report, LONGEST_END, LONGEST_LINE};
-use ttcrx_host::sys::{VERDICT_BROADCAST, VERDICT_NONE, VERDICT_STOP_BIT, VERDICT_UNCORRECTABLE};
+use ttcrx_host::sys::{VERDICT_BROADCAST, VERDICT_EVEN_SYNDROME, VERDICT_NONE};
+use ttcrx_host::sys::{VERDICT_ODD_SYNDROME, VERDICT_STOP_BIT};
 use ttcrx_host::testing::compare::Both;
 use ttcrx_host::testing::coverage::{assert_seen, Tally};
 use ttcrx_host::testing::frame::Frame;
@@ -50,16 +51,17 @@ fn receivers_within_a_frame() {
 }
 
 /// How many bits are held, the bits, a line, and what is printed of it, all by hand.
-const BY_HAND: [(u8, u64, &str, &str); 11] = [
+const BY_HAND: [(u8, u64, &str, &str); 12] = [
     // 100150235AD: 26 bits of it, and its last 16 as a line.
-    (26, 0x0100_1502, "35AD\n", "1 2 0 35\n"),
-    (26, 0x0180_1502, "35AD\n", "1 2 1 35\n"),
+    (26, 0x0100_1502, "35AD\n", "1 2 0 35 0\n"),
+    (26, 0x0180_1502, "35AD\n", "1 2 1 35 1\n"),
     (26, 0x0100_1502, "35AC\n", "1 7 0 -\n"),
     (26, 0x01C0_1502, "35AD\n", "1 8 0 -\n"),
     // 6 bits of 011B, and its last 10 in a line before two more broadcasts.
-    (6, 0, "11B00013FCD\n", "1 1 0 000000FF\n"),
-    (6, 0, "11B00010095\n", "1 1 1 00000002\n"),
-    (6, 0, "11B00010039\n", "1 8 0 -\n"),
+    (6, 0, "11B00013FCD\n", "1 1 0 000000FF 0\n"),
+    (6, 0, "11B00010095\n", "1 1 1 00000002 13\n"),
+    (6, 0, "11B00010039\n", "1 11 0 -\n"),
+    (6, 0, "11B0001304F\n", "1 8 0 -\n"),
     // The frame finishes before the last bit, in 0001 with stop bit 0.
     (1, 0, "0001\n", "1 0 0 00\n"),
     (1, 0, "1FFFFFFFFFF\n", "1 0 0 00000000\n"),
@@ -81,7 +83,7 @@ fn words_by_hand() {
         driver.end(LONGEST_END);
         both.same(line, driver.text().starts_with(expected), true);
     }
-    both.at_least(17 * 11);
+    both.at_least(17 * 12);
 }
 
 /// A frame of this kind and of any fate for which the test holds.
@@ -94,18 +96,21 @@ fn frame(random: &mut Random, kind: Kind, right: impl Fn(u64) -> bool) -> Frame 
     }
 }
 
-/// The verdict of the only line. The word has so many digits, or is `-`.
+/// The verdict of the only line. The word has so many digits, or is `-`; a place comes after the
+/// word of a frame that finished.
 #[track_caller]
 fn verdict(both: &Both<'static>, held: Held, line: &str, digits: usize) -> u8 {
     let text = said(both, holding(held), line.as_bytes());
     let fields: Vec<&str> = text.trim_end().split(' ').collect();
-    let [_, verdict, _, word] = fields[..] else {
+    let [_, verdict, _, word, ref place @ ..] = fields[..] else {
         panic!("a line of another form: {text}");
     };
-    let no_word = matches!(verdict, "7" | "8");
+    let verdict = verdict.parse().expect("a number");
+    let no_word = matches!(verdict, 7 | 8 | 11);
     let digits = if no_word { 1 } else { digits };
     both.same(line, (word.len(), word == "-"), (digits, no_word));
-    verdict.parse().expect("a digit")
+    both.same(line, place.len(), verdict::has_word(verdict).into());
+    verdict
 }
 
 /// The receiver holds all but the last 16 bits of a long frame; these are a short line. Its first two
@@ -115,14 +120,19 @@ fn verdict(both: &Both<'static>, held: Held, line: &str, digits: usize) -> u8 {
 fn long_frames_by_short_lines() {
     let both = Both::of("long frames finished by short lines");
     let mut random = Random::new(324);
-    let mut verdicts = Tally::of([("verdict", 2, 9)]);
+    let mut others = Tally::of([("verdict", 2, 6)]);
+    let mut dropped = Tally::of([verdict::DROPPED]);
     for _ in 0..5_000 {
         let whole = frame(&mut random, Kind::Long, |number| number & 0xC000 == 0);
         let line = format!("{:04X}\n", whole.back(16).number);
-        verdicts.seen([verdict(&both, whole.front(26).held(), &line, 2)]);
+        let verdict = verdict(&both, whole.front(26).held(), &line, 2);
+        match verdict::is_dropped(verdict) {
+            true => dropped.seen([verdict::of_dropped(verdict)]),
+            false => others.seen([verdict]),
+        }
     }
-    assert_seen(&[&verdicts]);
-    both.at_least(7 * 5_000);
+    assert_seen(&[&others, &dropped]);
+    both.at_least(8 * 5_000);
 }
 
 /// The receiver holds 6 bits of a short frame; its last 10 and two more are a long line. If the
@@ -131,7 +141,7 @@ fn long_frames_by_short_lines() {
 fn short_frames_by_long_lines() {
     let both = Both::of("short frames finished by long lines");
     let mut random = Random::new(325);
-    let mut fates = Tally::of([("fate (executed, stop bit, uncorrectable, none)", 0, 3)]);
+    let mut fates = Tally::of([("fate (executed, verdict 7, 8, 11, none)", 0, 4)]);
     for _ in 0..5_000 {
         let first = frame(&mut random, Kind::Short, |number| number >> 8 & 3 == 1);
         let [second, third] = [(); 2].map(|_| frame(&mut random, Kind::Short, |_| true).number);
@@ -142,8 +152,9 @@ fn short_frames_by_long_lines() {
         fates.seen([match verdict {
             VERDICT_BROADCAST => 0,
             VERDICT_STOP_BIT => 1,
-            VERDICT_UNCORRECTABLE => 2,
-            _ => 3,
+            VERDICT_EVEN_SYNDROME => 2,
+            VERDICT_ODD_SYNDROME => 3,
+            _ => 4,
         }]);
     }
     assert_seen(&[&fates]);

@@ -14,7 +14,7 @@ use ttcrx_host::ttcrx::report_start;
 const AMPLE: usize = 40_000;
 
 /// Lengths of buffers that take a line, near the least one and others.
-const LENGTHS: [usize; 9] = [35, 36, 37, 65, 66, 67, 100, 4_096, AMPLE];
+const LENGTHS: [usize; 9] = [38, 39, 40, 68, 69, 70, 100, 4_096, AMPLE];
 
 /// Reports the pieces, with buffers of these lengths in turn, and the end. Gives what the report
 /// kept before the end.
@@ -88,7 +88,7 @@ fn random_cuts() {
 fn single_bytes() {
     let both = Both::of("inputs byte by byte");
     let mut random = Random::new(312);
-    for length in (LONGEST_LINE..70).chain([100, 1_000]) {
+    for length in (LONGEST_LINE..73).chain([100, 1_000]) {
         let input = input(&mut random, 40);
         let pieces: Vec<&[u8]> = input.chunks(1).collect();
         as_whole(&both, &pieces, &[length]);

@@ -1,7 +1,7 @@
 //! Q-1 of document 02, "Quiet after a bad stop", in reports: 41 ones after each line with verdict
 //! 7, and receivers that want ones.
 
-use crate::driver::Driver;
+use crate::driver::{said, Driver};
 use crate::inputs::{input, quiet, report};
 use ttcrx_host::model::Kind;
 use ttcrx_host::sys::*;
@@ -11,7 +11,7 @@ use ttcrx_host::testing::frame::{send, wanting, Frame, RUN};
 use ttcrx_host::testing::library::Proved;
 use ttcrx_host::testing::lines::{any_frame, EVERY_KIND};
 use ttcrx_host::testing::random::Random;
-use ttcrx_host::testing::{states, verdict};
+use ttcrx_host::testing::{printed, states, verdict};
 use ttcrx_host::ttcrx;
 
 /// Lines with verdict 7, first, in the middle, last, several in a row, with and without the last
@@ -23,39 +23,29 @@ const BY_HAND: [(&str, &str); 14] = [
     ("2096\n", "1 7 0 -\nend 0 1 0 57\n"),
     ("100150235AC\n", "1 7 0 -\nend 0 1 0 83\n"),
     ("100150235AC", "1 7 0 -\nend 0 1 0 83\n"),
-    ("004E\n0001\n", "1 7 0 -\n2 1 0 00\nend 0 1 0 73\n"),
-    ("0001\n004E\n0001\n", "1 1 0 00\n2 7 0 -\n3 1 0 00\nend 0 1 0 89\n"),
-    ("0001\n004E\n", "1 1 0 00\n2 7 0 -\nend 0 1 0 73\n"),
-    ("0001\n004E", "1 1 0 00\n2 7 0 -\nend 0 1 0 73\n"),
+    ("004E\n0001\n", "1 7 0 -\n2 1 0 00 0\nend 0 1 0 73\n"),
+    ("0001\n004E\n0001\n", "1 1 0 00 0\n2 7 0 -\n3 1 0 00 0\nend 0 1 0 89\n"),
+    ("0001\n004E\n", "1 1 0 00 0\n2 7 0 -\nend 0 1 0 73\n"),
+    ("0001\n004E", "1 1 0 00 0\n2 7 0 -\nend 0 1 0 73\n"),
     ("004E\n004E\n004E\n", "1 7 0 -\n2 7 0 -\n3 7 0 -\nend 0 3 0 171\n"),
     ("004E\n100150235AC\n004E", "1 7 0 -\n2 7 0 -\n3 7 0 -\nend 0 3 0 197\n"),
     // A refused line sends no bit, and the ones were sent before it.
-    ("004E\n4001\n\n2097\n", "1 7 0 -\n2 ! 12\n3 ! 10\n4 1 1 02\nend 1 1 0 73\n"),
-    // No ones after the other frames that are dropped: 8 and 9.
-    ("304F\n10000000001\n", "1 8 0 -\n2 9 0 00000000\nend 0 2 0 58\n"),
+    ("004E\n4001\n\n2097\n", "1 7 0 -\n2 ! 12\n3 ! 10\n4 1 1 02 1\nend 1 1 0 73\n"),
+    // No ones after the other frames that are dropped: 8, 9 and 11.
+    ("304F\n10000000001\n0039\n", "1 8 0 -\n2 9 0 00000000 0\n3 11 0 -\nend 0 3 0 74\n"),
     // The ones count before a broadcast clears the bunch counter, and RESET clears all.
     (
         "004E\n004F\n004E\n100150600F3\n004E",
-        "1 7 0 -\n2 1 0 01\n3 7 0 -\n4 3 0 00150600\n5 7 0 -\nend 0 1 0 57\n",
+        "1 7 0 -\n2 1 0 01 0\n3 7 0 -\n4 3 0 00150600 0\n5 7 0 -\nend 0 1 0 57\n",
     ),
 ];
-
-/// The whole report of an input with this receiver.
-#[track_caller]
-fn said(both: &Both<'static>, receiver: Receiver, input: &[u8]) -> (String, Receiver) {
-    let report = Report { receiver, ..ttcrx::report_start() };
-    let mut driver = Driver::of(both, 0, report);
-    driver.piece(input, LONGEST_END);
-    driver.end(LONGEST_END);
-    (driver.text(), driver.report.receiver)
-}
 
 #[test]
 fn lines_by_hand() {
     let both = Both::of("lines with verdict 7, by hand");
     let fresh = ttcrx::fresh(5, 5).receiver;
     for (input, expected) in BY_HAND {
-        let (text, after) = said(&both, fresh, input.as_bytes());
+        let (text, after) = said(&both, fresh, input);
         both.same(input, text.as_str(), expected);
         both.same(input, after.held, Held::default());
     }
@@ -93,13 +83,13 @@ fn receivers_that_want_ones_by_hand() {
         ("004E\n004F\n", "1 0 0 00\n2 0 0 00\nend 0 0 0 32\n", 37),
         ("004E\n100150235AC", "1 0 0 00\n2 0 0 00000000\nend 0 0 0 58\n", 41),
         ("4001\n000G\n3FFF\n", "1 ! 12\n2 ! 11\n3 0 0 00\nend 0 0 0 16\n", 27),
-        ("1FFFFFFFFFF\n2097\n004E", "1 0 0 00000000\n2 1 1 02\n3 7 0 -\nend 1 1 0 115\n", 0),
+        ("1FFFFFFFFFF\n2097\n004E", "1 0 0 00000000\n2 1 1 02 1\n3 7 0 -\nend 1 1 0 115\n", 0),
     ];
     for ones_wanted in 1..=RUN {
         let mut receiver = ttcrx::fresh(5, 5).receiver;
         receiver.held = wanting(ones_wanted);
         for (input, expected, wanted) in inputs {
-            let (text, after) = said(&both, receiver, input.as_bytes());
+            let (text, after) = said(&both, receiver, input);
             let wanted = if input.is_empty() { ones_wanted } else { wanted };
             both.same((input, ones_wanted), text.as_str(), expected);
             both.same((input, ones_wanted), after.held, wanting(wanted));
@@ -117,7 +107,7 @@ fn runs_across_lines() {
     receiver.held = wanting(RUN);
     let lines = "3FFF\n3FFF\n3FFF\n0001\n";
     let expected = "1 0 0 00\n2 0 0 00\n3 0 0 00\n4 0 0 00\nend 0 0 0 64\n";
-    let (text, after) = said(&both, receiver, lines.as_bytes());
+    let (text, after) = said(&both, receiver, lines);
     both.same(lines, text.as_str(), expected);
     both.same(lines, after.held, wanting(40));
     both.at_least(10);
@@ -131,17 +121,11 @@ fn by_clocks(receiver: Receiver, number: usize, line: &[u8]) -> (String, Receive
     }
     let kind = Kind::of_number(read.kind).expect("a kind");
     let last = send(&Proved, receiver, Frame::of(kind, read.number));
-    let shown = last.outputs;
-    let word = match (shown.verdict, kind) {
-        (VERDICT_STOP_BIT | VERDICT_UNCORRECTABLE, _) => "-".to_string(),
-        (_, Kind::Short) => format!("{:02X}", shown.word % 256),
-        (_, Kind::Long) => format!("{:08X}", shown.word),
-    };
-    let after = match shown.verdict {
+    let after = match last.outputs.verdict {
         VERDICT_STOP_BIT => send(&Proved, last.receiver, Frame::ones(RUN)).receiver,
         _ => last.receiver,
     };
-    (format!("{number} {} {} {word}\n", shown.verdict, shown.corrected), after)
+    (format!("{number} {}\n", printed::fate(kind, &last.outputs)), after)
 }
 
 /// Reports beside single clocks of the library: of receivers that wait, hold bits or want ones.
@@ -214,7 +198,7 @@ fn many_bad_stops() {
             clocks += u16::from(frame.length) + u16::from(RUN);
         }
         let before = report(&mut random).receiver;
-        let (text, after) = said(&both, before, input.as_bytes());
+        let (text, after) = said(&both, before, &input);
         both.same(&input, text.matches(" 7 0 -\n").count(), count);
         let counters = (before.core.counters, after.core.counters);
         both.same(&input, counters.1.bunch, (counters.0.bunch + clocks) % 4096);

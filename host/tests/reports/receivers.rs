@@ -60,7 +60,7 @@ fn every_id() {
             let frame = Frame::long(Fields { address, e, sub_address, data: id as u8 });
             input += &format!("{:011X}\n", frame.number);
             let word = (frame.number >> 8) as u32;
-            expected += &format!("{line} {verdict} 0 {word:08X}\n");
+            expected += &format!("{line} {verdict} 0 {word:08X} 0\n");
         }
         let fresh = ttcrx::fresh(id, id as u8 % 64).receiver;
         let text = said(&both, fresh, input.as_bytes());
@@ -155,7 +155,7 @@ fn receivers_within_a_line() {
     let line = b"100150235AD\n";
     for cut in 0..line.len() {
         let (front, back) = line.split_at(cut);
-        for (id, expected) in [(5, "1 2 0 00150235\n"), (6, "1 5 0 00150235\n")] {
+        for (id, expected) in [(5, "1 2 0 00150235 0\n"), (6, "1 5 0 00150235 0\n")] {
             let mut driver = Driver::of(&both, 0, ttcrx::report_start());
             driver.input(front, LONGEST_LINE);
             both.same(cut, driver.report.part.count, cut as u8);

@@ -9,7 +9,8 @@ use ttcrx_host::testing::frame::Frame;
 
 const CLEAN: &str = "0001\n";
 const CORRECTED: &str = "2097\n";
-const UNCORRECTABLE: &str = "304F\n";
+const EVEN_SYNDROME: &str = "304F\n";
+const ODD_SYNDROME: &str = "0039\n";
 const STOP_BIT: &str = "004E\n";
 const FIXED_BIT: &str = "10000000001\n";
 
@@ -65,17 +66,19 @@ fn single_errors_stop_at_the_top() {
 #[test]
 fn double_errors_stop_at_the_top() {
     let cases = Cases::of("double errors up to their top");
-    for (line, clocks) in [(UNCORRECTABLE, 16), (STOP_BIT, 16 + 41), (FIXED_BIT, 42)] {
+    for (line, clocks) in
+        [(EVEN_SYNDROME, 16), (ODD_SYNDROME, 16), (STOP_BIT, 16 + 41), (FIXED_BIT, 42)]
+    {
         for (lines, double) in [(254, 254), (255, 255), (256, 255), (300, 255)] {
             let end = format!("end 0 {double} 0 {}", lines * clocks % 4096);
             ends(&cases, &line.repeat(lines), &end);
         }
     }
-    let all = [UNCORRECTABLE, STOP_BIT, FIXED_BIT].concat().repeat(100);
-    ends(&cases, &(all.clone() + CORRECTED), "end 1 255 0 3324");
+    let all = [EVEN_SYNDROME, STOP_BIT, ODD_SYNDROME, FIXED_BIT].concat().repeat(100);
+    ends(&cases, &(all.clone() + CORRECTED), "end 1 255 0 828");
     let cleared = all + &line(reset(0)) + STOP_BIT;
     ends(&cases, &cleared, "end 0 1 0 57");
-    cases.at_least(3 * 14);
+    cases.at_least(3 * 18);
 }
 
 #[test]
@@ -121,7 +124,7 @@ fn refused_lines_count_nothing() {
 #[test]
 fn resets() {
     let cases = Cases::of("RESET after errors");
-    let before = [CORRECTED, UNCORRECTABLE, STOP_BIT].concat();
+    let before = [CORRECTED, EVEN_SYNDROME, STOP_BIT].concat();
     for reset in [reset(5), reset(0)] {
         for bits in [0, 1 << 1, 1 << 7, 1 << 8, 1 << 24, 1 << 39] {
             let input = before.clone() + &line(reset.flipped(bits));

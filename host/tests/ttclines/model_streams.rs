@@ -44,7 +44,7 @@ fn a_read_error() {
     let mut output = Vec::new();
     let error = run(&mut BufReader::new(failing), &mut output).expect_err("a read error");
     assert_eq!(error.kind(), ErrorKind::InvalidData);
-    assert_eq!(output, b"1 1 0 01\n2 1 0 00\n");
+    assert_eq!(output, b"1 1 0 01 0\n2 1 0 00 0\n");
 }
 
 /// An input without end, written to where there is room for a few bytes.

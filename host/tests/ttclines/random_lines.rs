@@ -2,6 +2,7 @@
 
 use crate::compare::{same, same_end};
 use crate::program;
+use ttcrx_host::sys::{PLACES_LONG, PLACES_SHORT};
 use ttcrx_host::tallies;
 use ttcrx_host::testing::compare::Cases;
 use ttcrx_host::testing::lines::{lines, EVERY_KIND, MOSTLY_CLEAN};
@@ -13,6 +14,9 @@ tallies! {
     struct Said {
         good: [verdict::GOOD, ("corrected flag", 0, 1)],
         dropped: [verdict::DROPPED, ("corrected flag", 0, 0)],
+        short_places: [("place in a line of 2 digits", 0, PLACES_SHORT)],
+        long_places: [("place in a line of 8 digits", 0, PLACES_LONG)],
+        fixed_bit: [("place with verdict 9", 0, 0)],
         refusals: [("refusal", 10, 12)],
     }
 }
@@ -21,12 +25,32 @@ impl Said {
     /// One line of the output but the last.
     fn line(&mut self, line: &str) {
         let fields: Vec<&str> = line.split(' ').collect();
-        let number = |place: usize| fields[place].parse().expect("a small number");
-        match (fields[1], fields.len()) {
-            ("!", 3) => self.refusals.seen([number(2)]),
-            ("7" | "8" | "9", 4) => self.dropped.seen([number(1), number(2)]),
-            (_, 4) => self.good.seen([verdict::last_digit(number(1)), number(2)]),
+        let number = |field: &str| field.parse().expect("a small number");
+        match fields[..] {
+            [_, "!", refusal] => self.refusals.seen([number(refusal)]),
+            [_, "7" | "8" | "11", flag, "-"] => self.dropped(number(fields[1]), number(flag)),
+            [_, "9", flag, _, place] => {
+                self.dropped(9, number(flag));
+                self.fixed_bit.seen([number(place)]);
+            }
+            [_, verdict, flag, word, place] => {
+                self.good.seen([verdict::of_good(number(verdict)), number(flag)]);
+                self.place(number(flag), word, number(place));
+            }
             _ => panic!("a line of another form: {line}"),
+        }
+    }
+
+    fn dropped(&mut self, verdict: u8, flag: u8) {
+        self.dropped.seen([verdict::of_dropped(verdict), flag]);
+    }
+
+    /// The place is 0 exactly if the flag is.
+    fn place(&mut self, flag: u8, word: &str, place: u8) {
+        assert_eq!(flag == 0, place == 0, "flag {flag}, place {place}");
+        match word.len() {
+            2 => self.short_places.seen([place]),
+            _ => self.long_places.seen([place]),
         }
     }
 

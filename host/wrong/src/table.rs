@@ -1,6 +1,7 @@
 //! All mistakes: the function that each is in, the tests that must find it, and what is wrong.
 
 use crate::mistakes::frames::{Sent, Taken};
+use crate::mistakes::places::{Decoders, Told};
 use crate::mistakes::*;
 use crate::Shared;
 
@@ -137,6 +138,8 @@ table! {
         "the bunch counter does not count the ones after a line with verdict 7";
     ReportInput quiet::ones_after_8, "reports quiet" "examples":
         "ones are sent after a line with verdict 8 too";
+    ReportInput quiet::ones_after_11, "reports quiet":
+        "ones are sent after a line with verdict 11 too";
     ReportInput quiet::ones_after_every_line_in_a_run, "reports quiet" "reports held_bits":
         "ones are sent after each line that leaves the receiver wanting ones";
 
@@ -189,8 +192,97 @@ table! {
         "a line with verdict 10 is printed with - instead of its word";
     ReportInput no_setting::verdict_10_printed_as_a, "reports no_setting":
         "verdict 10 is printed as a hexadecimal digit";
-    ReportInput no_setting::longest_line_of_34_bytes, "reports no_setting" "reports rooms":
-        "34 bytes are taken as room for any line";
+    ReportInput no_setting::longest_line_of_37_bytes, "reports no_setting" "reports rooms":
+        "37 bytes are taken as room for any line";
+
+    // Say what was wrong and which bit: Q-8 of document 02.
+    Told places::odd_for_two_flips, "frames" "clock places" "lists receives_frames":
+        "two flips get verdict 11";
+    Told places::even_for_every_storm, "frames" "clock places" "lists storms" "three_flips"
+        "examples":
+        "every frame that cannot be corrected gets verdict 8";
+    Told places::check_bits_alone_decide, "frames" "clock places" "lists storms" "three_flips":
+        "verdict 8 or 11 goes by the received check bits alone";
+    Clock places::odd_syndrome_in_decoders_only, "clock places" "lists storms":
+        "the decoders give verdict 11, but the clock gives 8";
+    Decoders places::odd_syndrome_in_clocks_only, "frames" "three_flips" "examples":
+        "the clock gives verdict 11, but the decoders give 8";
+    Clock places::odd_syndrome_not_counted, "clock places" "lists storms":
+        "verdict 11 does not raise the double error counter";
+    Clock places::odd_syndrome_is_a_single_error, "clock places" "lists storms":
+        "verdict 11 raises the single error counter instead of the double one";
+    Clock places::odd_syndromes_wrap, "clock places" "lists storms":
+        "verdict 11 takes the double error counter from 255 to 0";
+    Clock places::odd_syndrome_clears_status, "clock places" "lists storms":
+        "verdict 11 clears status bit 5";
+    Clock places::odd_syndrome_leaves_status, "clock places" "lists storms":
+        "verdict 11 does not set status bit 5";
+    Clock places::quiet_after_11, "clock places" "lists storms":
+        "verdict 11 makes the receiver want ones too";
+    Clock places::word_with_11, "clock places" "lists storms":
+        "the word as received is shown with verdict 11";
+    Told places::places_from_0, "frames" "clock places" "lists receives_frames" "examples":
+        "places count from 0";
+    Told places::places_from_the_start_bit, "frames" "clock places" "lists receives_frames":
+        "places count from the start bit";
+    Told places::check_bits_first, "frames" "clock places" "lists receives_frames":
+        "the check bits have the first places";
+    Told places::least_significant_first, "frames" "clock places" "lists receives_frames":
+        "places count from the bit before the stop bit";
+    Told places::least_significant_first_in_each, "frames" "clock places" "lists receives_frames":
+        "places of word and of check bits count from the least significant";
+    Told places::no_place_for_check_bits, "frames" "clock places" "lists receives_frames":
+        "a wrong check bit has place 0";
+    Told places::long_places_as_short, "frames" "clock places" "lists receives_frames":
+        "places of a long frame count as in a short one";
+    Told places::flag_without_place, "frames" "clock places" "lists receives_frames":
+        "the place is always 0";
+    Told places::place_with_9, "clock places" "lists storms":
+        "verdict 9 after a correction has a place";
+    Clock places::reset_clears_the_place, "clock places" "lists receives_frames":
+        "a corrected RESET has place 0";
+    Clock places::no_place_for_other_addresses, "clock places" "lists receives_frames":
+        "a corrected frame for another address has place 0";
+    Clock places::no_place_without_a_setting, "clock places" "lists receives_frames":
+        "a corrected frame with verdict 10 has place 0";
+    Clock places::place_of_the_frame_before, "clock places" "lists receives_frames":
+        "a frame that is not corrected has the place of the last one that was";
+    Clock places::place_stays, "clock places" "lists receives_frames":
+        "the place is shown until the next frame finishes";
+    Clock places::place_of_a_refused_clock, "clock every_combination":
+        "a refused clock shows a place";
+    Receive places::received_without_place, "receive":
+        "a whole frame has place 0";
+    Receive places::whole_storm_is_even, "receive":
+        "a whole frame that cannot be corrected always gets verdict 8";
+    RunBlock places::place_in_the_code, "blocks places" "blocks cuts":
+        "the code of a record has the place of the flipped bit";
+    RunBlock places::place_of_the_bit_recorded, "blocks places" "blocks cuts":
+        "the place of a record is that of the flipped bit";
+    RunBlock places::verdict_11_recorded_as_8, "blocks places" "blocks cuts":
+        "the code of a record has verdict 8 instead of 11";
+    ReportInput places::place_printed_for_0, "reports places" "reports quiet" "reports held_bits":
+        "a place is printed for verdict 0";
+    ReportInput places::place_printed_for_8, "reports places" "examples":
+        "a place is printed for verdict 8";
+    ReportInput places::place_printed_for_11, "reports places":
+        "a place is printed for verdict 11";
+    ReportInput places::no_place_printed_for_5, "reports places" "examples":
+        "no place is printed for verdict 5";
+    ReportInput places::no_place_printed_for_9, "reports places":
+        "no place is printed for verdict 9";
+    ReportInput places::no_place_printed_for_10, "reports places" "reports no_setting":
+        "no place is printed for verdict 10";
+    ReportInput places::no_place_printed_if_clean, "reports places" "examples":
+        "a place of 0 is not printed";
+    ReportInput places::place_printed_before_the_word, "reports places" "examples":
+        "the place is printed before the word";
+    ReportInput places::place_printed_in_hexadecimal, "reports places" "reports no_setting":
+        "the place is printed in hexadecimal";
+    ReportInput places::word_printed_for_11, "reports places":
+        "the word is printed for verdict 11 instead of -";
+    ReportEnd places::last_line_without_place, "reports places" "reports ends":
+        "a last line without line feed is printed without its place";
 
     // Registers.
     Read registers::register_before_state, "registers":
@@ -264,7 +356,7 @@ table! {
     ReportInput reports::no_room_wanted, "reports":
         "room_wanted is 0 where input is left";
     ReportInput reports::room_always_wanted, "reports":
-        "room_wanted is 35 although all was used";
+        "room_wanted is 38 although all was used";
     ReportInput reports::line_numbers_from_0, "reports":
         "line numbers count from 0";
     ReportInput reports::receiver_of_id_5_only, "reports":
@@ -272,5 +364,5 @@ table! {
     ReportEnd reports::last_line_forgotten, "reports":
         "a last line without line feed is not reported";
     ReportEnd reports::end_wants_a_line, "reports":
-        "room_wanted of the end is 35";
+        "room_wanted of the end is 38";
 }

@@ -24,7 +24,8 @@ pub fn of_library(outputs: &ttcrx::Outputs) -> u64 {
         | u64::from(outputs.missed) << 1
         | u64::from(outputs.strobe) << 2
         | u64::from(outputs.corrected) << 4
-        | u64::from(outputs.verdict) << 8
+        | u64::from(outputs.verdict) << 5
+        | u64::from(outputs.place) << 9
         | u64::from(outputs.number) << 16
         | u64::from(outputs.word) << 32
 }
@@ -36,8 +37,9 @@ pub fn of_model(outputs: &model::Outputs) -> u64 {
     u64::from(outputs.trigger)
         | u64::from(outputs.missed) << 1
         | u64::from(strobe) << 2
-        | u64::from(outputs.fate.corrected) << 4
-        | (outputs.fate.verdict as u64) << 8
+        | u64::from(outputs.fate.corrected()) << 4
+        | (outputs.fate.verdict as u64) << 5
+        | u64::from(outputs.fate.place()) << 9
         | u64::from(number) << 16
         | u64::from(outputs.fate.word) << 32
 }

@@ -5,7 +5,7 @@ mod quiet;
 mod tally;
 
 use super::verdict;
-use crate::sys::{ClockAnswer, Receiver, REFUSED_NO_SETTING};
+use crate::sys::{ClockAnswer, Receiver, PLACES_LONG, PLACES_SHORT, REFUSED_NO_SETTING};
 use crate::tallies;
 pub use accesses::{kind, Accesses, KINDS};
 pub use quiet::Quiet;
@@ -16,14 +16,16 @@ tallies! {
         refusals: [("refusal (8 for 17)", 0, 8)],
         verdicts: [verdict::ANY, ("trigger", 0, 1), ("words left", 0, 2)],
         corrected: [verdict::GOOD, ("corrected flag", 0, 1)],
-        kinds: [("long", 0, 1), ("error verdict", 7, 8)],
+        kinds: [("long", 0, 1), ("error verdict (7, 8, 11)", 0, 2)],
+        short_places: [("place in a short frame", 1, PLACES_SHORT)],
+        long_places: [("place in a long frame", 1, PLACES_LONG)],
         next_bits: [verdict::FINISHED, ("next data bit", 0, 1)],
         strobes: [("strobe kind", 0, 3)],
         modes: [("trigger in mode", 0, 3)],
         flags: [("flag (trigger, missed, corrected)", 0, 2), ("value", 0, 1)],
         status5: [("status bit 5 before", 0, 1), ("after", 0, 1)],
         single_top: [("corrected at 65535 single errors, last digit of the verdict", 0, 6)],
-        double_top: [("double errors stay at 255, verdict", 7, 9)],
+        double_top: [("double errors stay at 255, verdict (10 for 11)", 7, 10)],
         top_resets: [("RESET clears the top of (single, double)", 0, 1)],
         wraps: [("wrap of (bunch, event)", 0, 1), ("words left", 0, 2)],
         registers: [("register", 0, 3), ("own address", 0, 1)],
@@ -103,11 +105,17 @@ impl Coverage {
     fn frame(&mut self, before: &Receiver, answer: &ClockAnswer) {
         let out = &answer.outputs;
         if verdict::is_good(out.verdict) {
-            let digit = verdict::last_digit(out.verdict);
+            let digit = verdict::of_good(out.verdict);
             self.tallies.corrected.seen([digit, out.corrected]);
         }
-        if matches!(out.verdict, 7 | 8) {
-            self.tallies.kinds.seen([(before.held.count > 15).into(), out.verdict]);
+        let long = before.held.count > 15;
+        if let Some(error) = [7, 8, 11].iter().position(|verdict| *verdict == out.verdict) {
+            self.tallies.kinds.seen([long.into(), error as u8]);
+        }
+        match (out.corrected, long) {
+            (1, false) => self.tallies.short_places.seen([out.place]),
+            (1, true) => self.tallies.long_places.seen([out.place]),
+            _ => {}
         }
         match out.verdict {
             1 => {
@@ -150,7 +158,7 @@ impl Coverage {
         if errors.single_errors == 65535 {
             assert_eq!(after.single_errors, if reset { 0 } else { 65535 });
             if corrected == 1 {
-                self.tallies.single_top.seen([verdict::last_digit(verdict)]);
+                self.tallies.single_top.seen([verdict::of_good(verdict)]);
             }
             if reset {
                 self.tallies.top_resets.seen([0]);
@@ -159,7 +167,7 @@ impl Coverage {
         if errors.double_errors == 255 {
             assert_eq!(after.double_errors, if reset { 0 } else { 255 });
             if verdict::is_dropped(verdict) {
-                self.tallies.double_top.seen([verdict]);
+                self.tallies.double_top.seen([verdict::of_dropped(verdict)]);
             }
             if reset {
                 self.tallies.top_resets.seen([1]);

@@ -127,7 +127,7 @@ pub fn clear_reaches_sequence(receiver: Receiver, trigger: u8, data: u8) -> Cloc
 
 pub fn status_not_set_by_8(receiver: Receiver, trigger: u8, data: u8) -> ClockAnswer {
     let mut answer = Model.clock(receiver, trigger, data);
-    if answer.outputs.verdict == VERDICT_UNCORRECTABLE {
+    if answer.outputs.verdict == VERDICT_EVEN_SYNDROME {
         answer.receiver.core.errors.status5 = receiver.core.errors.status5;
     }
     answer
@@ -135,7 +135,8 @@ pub fn status_not_set_by_8(receiver: Receiver, trigger: u8, data: u8) -> ClockAn
 
 pub fn double_errors_wrap(receiver: Receiver, trigger: u8, data: u8) -> ClockAnswer {
     let mut answer = Model.clock(receiver, trigger, data);
-    if matches!(answer.outputs.verdict, VERDICT_STOP_BIT..=VERDICT_FIXED_BIT) {
+    if matches!(answer.outputs.verdict, VERDICT_STOP_BIT..=VERDICT_FIXED_BIT | VERDICT_ODD_SYNDROME)
+    {
         let before = receiver.core.errors.double_errors;
         answer.receiver.core.errors.double_errors = before.wrapping_add(1);
     }

@@ -32,14 +32,17 @@ impl Library for Taken {
         if right.outputs.verdict == VERDICT_NONE {
             return right;
         }
-        let taken = (self.0)(Frame {
-            number: receiver.held.bits << 1 | u64::from(data),
-            length: receiver.held.count + 1,
-        });
+        let taken = (self.0)(finished(&receiver, data));
         let held = taken.front(taken.length - 1).held();
         let last = (taken.number & 1) as u8;
         Model.clock(Receiver { held, ..receiver }, trigger, last)
     }
+}
+
+/// The frame that a clock with this data bit finishes.
+pub fn finished(receiver: &Receiver, data: u8) -> Frame {
+    let Held { count, bits, .. } = receiver.held;
+    Frame { number: bits << 1 | u64::from(data), length: count + 1 }
 }
 
 /// What the frame says with a stop bit of 1.
@@ -51,14 +54,14 @@ fn stopped(frame: Frame) -> (Frame, Decoded) {
 
 pub fn stop_bit_tested_last(frame: Frame) -> Frame {
     match stopped(frame) {
-        (stopped, said) if said.corrected => stopped,
+        (stopped, said) if said.flipped.is_some() => stopped,
         _ => frame,
     }
 }
 
 pub fn stop_bit_protected(frame: Frame) -> Frame {
     let (stopped, said) = stopped(frame);
-    let clean = said.verdict == Verdict::None && !said.corrected;
+    let clean = said.verdict == Verdict::None && said.flipped.is_none();
     match clean && stopped != frame {
         true => stopped.flipped(2),
         false => frame,
@@ -66,17 +69,9 @@ pub fn stop_bit_protected(frame: Frame) -> Frame {
 }
 
 pub fn every_odd_syndrome_is_one_flip(frame: Frame) -> Frame {
-    let kind = frame.kind();
-    let data = frame.number >> (1 + kind.check_bits()) & ((1 << kind.data_bits()) - 1);
-    let right = match kind {
-        Kind::Short => Frame::short(data as u8),
-        Kind::Long => Frame::word(data as u32),
-    };
     let (stopped, said) = stopped(frame);
-    let uncorrectable = stopped == frame && said.verdict == Verdict::Uncorrectable;
-    let syndrome = right.number ^ frame.number;
-    match uncorrectable && syndrome.count_ones() % 2 == 1 {
-        true => right.flipped(2),
+    match stopped == frame && said.verdict == Verdict::OddSyndrome {
+        true => Frame::encoded(frame.kind(), frame.data()).flipped(2),
         false => frame,
     }
 }

@@ -6,6 +6,7 @@ pub mod clock;
 pub mod frames;
 pub mod lines;
 pub mod no_setting;
+pub mod places;
 pub mod quiet;
 pub mod registers;
 pub mod reports;

@@ -1,5 +1,6 @@
 //! Mistakes in Q-4 of document 02, "No delay byte without a setting".
 
+use super::reports::other_fields;
 use crate::sys::*;
 use crate::testing::convert;
 use crate::testing::frame::{wanting, RUN};
@@ -238,36 +239,25 @@ pub fn verdict_10_recorded_as_2(
     outcome
 }
 
-/// Each line with verdict 10 has another text, which is no longer; what it leaves of the buffer is as
-/// it was.
-fn printed(
-    (report, input, buffer): (Report, &[u8], &mut [u8]),
-    change: impl Fn(&str, &str) -> String,
-) -> Reported {
-    let before = buffer.to_vec();
-    let done = Model.report_input(report, input, buffer);
-    let text = String::from_utf8_lossy(&buffer[..done.written]).into_owned();
-    let line = |line: &str| match line.split_once(" 10 ") {
-        Some((number, after)) if !number.contains(' ') => change(number, after),
-        _ => line.to_string(),
-    };
-    let other: String = text.split_inclusive('\n').map(line).collect();
-    let written = other.len();
-    buffer[..written].copy_from_slice(other.as_bytes());
-    buffer[written..done.written].copy_from_slice(&before[written..done.written]);
-    Reported { written, ..done }
+/// Each line with verdict 10 is printed with other fields.
+fn printed(lent: (Report, &[u8], &mut [u8]), change: impl Fn(&mut Vec<String>)) -> Reported {
+    other_fields(lent, |fields| {
+        if fields[1] == "10" {
+            change(fields);
+        }
+    })
 }
 
 pub fn verdict_10_without_word(report: Report, input: &[u8], buffer: &mut [u8]) -> Reported {
-    printed((report, input, buffer), |number, after| format!("{number} 10 {} -\n", &after[..1]))
+    printed((report, input, buffer), |fields| fields[3] = "-".to_string())
 }
 
 pub fn verdict_10_printed_as_a(report: Report, input: &[u8], buffer: &mut [u8]) -> Reported {
-    printed((report, input, buffer), |number, after| format!("{number} A {after}"))
+    printed((report, input, buffer), |fields| fields[1] = "A".to_string())
 }
 
-/// Where 34 bytes are free one more line is reported, of which the 35th byte is lost.
-pub fn longest_line_of_34_bytes(report: Report, input: &[u8], buffer: &mut [u8]) -> Reported {
+/// Where 37 bytes are free one more line is reported, of which the 38th byte is lost.
+pub fn longest_line_of_37_bytes(report: Report, input: &[u8], buffer: &mut [u8]) -> Reported {
     let done = Model.report_input(report, input, buffer);
     let free = &mut buffer[done.written..];
     if done.room_wanted == 0 || free.len() != LONGEST_LINE - 1 {

@@ -1,5 +1,6 @@
 //! Mistakes in Q-1 of document 02, "Quiet after a bad stop".
 
+use super::reports::byte_by_byte;
 use crate::sys::*;
 use crate::testing::convert;
 use crate::testing::frame::{send, wanting, Frame, RUN};
@@ -51,7 +52,7 @@ pub fn zero_starts_a_frame(receiver: Receiver, trigger: u8, data: u8) -> ClockAn
 
 pub fn quiet_after_8(receiver: Receiver, trigger: u8, data: u8) -> ClockAnswer {
     let mut answer = Model.clock(receiver, trigger, data);
-    if answer.outputs.verdict == VERDICT_UNCORRECTABLE {
+    if answer.outputs.verdict == VERDICT_EVEN_SYNDROME {
         answer.receiver.held = wanting(RUN);
     }
     answer
@@ -218,35 +219,21 @@ pub fn block_hunts_at_once(
     BlockOutcome { refusal: ACCEPTED, records }
 }
 
-/// The verdict of a line's text; none where the line is refused, or where it has two digits.
+/// The verdict of a line's text; none where the line is refused.
 fn verdict(text: &[u8]) -> Option<u8> {
-    match text.split(|&byte| byte == b' ').nth(1)? {
-        [digit] => digit.checked_sub(b'0'),
-        _ => None,
-    }
+    let field = text.split(|&byte| byte == b' ').nth(1)?;
+    str::from_utf8(field).ok()?.parse().ok()
 }
 
-/// Byte by byte. The receiver is changed after each line by its verdict.
-fn after_lines(
-    (report, input, buffer): (Report, &[u8], &mut [u8]),
-    change: impl Fn(u8, &mut Receiver),
-) -> Reported {
-    let mut all = Model.report_input(report, &[], &mut []);
-    for byte in input {
-        let free = &mut buffer[all.written..];
-        let done = Model.report_input(all.report, &[*byte], free);
-        all.report = done.report;
+/// The receiver is changed after each line by its verdict.
+fn after_lines(lent: (Report, &[u8], &mut [u8]), change: impl Fn(u8, &mut Receiver)) -> Reported {
+    byte_by_byte(lent, |report, byte, free| {
+        let mut done = Model.report_input(report, &[byte], free);
         if let Some(verdict) = verdict(&free[..done.written]) {
-            change(verdict, &mut all.report.receiver);
+            change(verdict, &mut done.report.receiver);
         }
-        all.used += done.used;
-        all.written += done.written;
-        all.room_wanted = done.room_wanted;
-        if done.room_wanted != 0 {
-            break;
-        }
-    }
-    all
+        done
+    })
 }
 
 /// 41 clocks are taken off the bunch counter.
@@ -283,7 +270,15 @@ pub fn ones_count_no_bunches(report: Report, input: &[u8], buffer: &mut [u8]) ->
 
 pub fn ones_after_8(report: Report, input: &[u8], buffer: &mut [u8]) -> Reported {
     after_lines((report, input, buffer), |verdict, receiver| {
-        if verdict == VERDICT_UNCORRECTABLE {
+        if verdict == VERDICT_EVEN_SYNDROME {
+            send_ones(receiver);
+        }
+    })
+}
+
+pub fn ones_after_11(report: Report, input: &[u8], buffer: &mut [u8]) -> Reported {
+    after_lines((report, input, buffer), |verdict, receiver| {
+        if verdict == VERDICT_ODD_SYNDROME {
             send_ones(receiver);
         }
     })

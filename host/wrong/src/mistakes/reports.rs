@@ -14,25 +14,78 @@ pub fn carriage_return_ends_a_line(report: Report, input: &[u8], buffer: &mut [u
     Model.report_input(report, &other, buffer)
 }
 
-/// Byte by byte, but for line feeds at the beginning of a line.
-pub fn empty_line_not_counted(report: Report, input: &[u8], buffer: &mut [u8]) -> Reported {
-    let mut all = Model.report_input(report, &[], &mut []);
-    for byte in input {
-        let free = &mut buffer[all.written..];
-        if *byte == b'\n' && all.report.part.count == 0 && free.len() >= LONGEST_LINE {
-            all.used += 1;
-            continue;
-        }
-        let done = Model.report_input(all.report, &[*byte], free);
-        all.report = done.report;
-        all.used += done.used;
-        all.written += done.written;
-        all.room_wanted = done.room_wanted;
+/// Byte by byte, each with what is free of the buffer, until room is wanted.
+pub fn byte_by_byte(
+    (report, input, buffer): (Report, &[u8], &mut [u8]),
+    step: impl Fn(Report, u8, &mut [u8]) -> Reported,
+) -> Reported {
+    let mut all = Reported { report, ..Reported::default() };
+    for &byte in input {
+        let done = step(all.report, byte, &mut buffer[all.written..]);
+        all = Reported {
+            report: done.report,
+            used: all.used + done.used,
+            written: all.written + done.written,
+            room_wanted: done.room_wanted,
+        };
         if done.room_wanted != 0 {
             break;
         }
     }
     all
+}
+
+/// A line's text with other fields.
+fn changed(line: &[u8], change: impl Fn(&mut Vec<String>)) -> String {
+    let text = String::from_utf8_lossy(line);
+    let mut fields: Vec<String> = text.trim_end().split(' ').map(str::to_string).collect();
+    change(&mut fields);
+    fields.join(" ") + "\n"
+}
+
+/// Each line of a report is printed with other fields.
+pub fn other_fields(
+    lent: (Report, &[u8], &mut [u8]),
+    change: impl Fn(&mut Vec<String>),
+) -> Reported {
+    byte_by_byte(lent, |report, byte, free| {
+        let mut text = [0; LONGEST_LINE];
+        let room = free.len().min(LONGEST_LINE);
+        let done = Model.report_input(report, &[byte], &mut text[..room]);
+        if done.written == 0 {
+            return done;
+        }
+        let other = changed(&text[..done.written], &change);
+        free[..other.len()].copy_from_slice(other.as_bytes());
+        Reported { written: other.len(), ..done }
+    })
+}
+
+/// A last line without line feed is printed with other fields; its text is no longer.
+pub fn other_last_line(
+    (report, buffer): (Report, &mut [u8]),
+    change: impl Fn(&mut Vec<String>),
+) -> Reported {
+    let mut text = vec![0; buffer.len()];
+    let done = Model.report_end(report, &mut text);
+    let mut lines = text[..done.written].split_inclusive(|&byte| byte == b'\n');
+    let (first, second) = (lines.next().unwrap_or_default(), lines.next());
+    let other = match second {
+        Some(end) => [changed(first, change).as_bytes(), end].concat(),
+        None => first.to_vec(),
+    };
+    buffer[..other.len()].copy_from_slice(&other);
+    Reported { written: other.len(), ..done }
+}
+
+pub fn empty_line_not_counted(report: Report, input: &[u8], buffer: &mut [u8]) -> Reported {
+    byte_by_byte((report, input, buffer), |report, byte, free| {
+        let empty = byte == b'\n' && report.part.count == 0;
+        match empty && free.len() >= LONGEST_LINE {
+            true => Reported { report, used: 1, ..Reported::default() },
+            false => Model.report_input(report, &[byte], free),
+        }
+    })
 }
 
 pub fn no_room_wanted(report: Report, input: &[u8], buffer: &mut [u8]) -> Reported {
