@@ -25,7 +25,7 @@ IN_WORDS = \
 	-e 's/^[0-9]+ ! 12$$/refused: start, format or leading bits are wrong/' \
 	-e 's/^[0-9]+ ([1-6]|10) 1 [0-9A-F]+ ([0-9]+)$$/verdict \1, after the wrong bit at place \2 was corrected/' \
 	-e 's/^[0-9]+ ([1-9]|1[01]) 0 .*/verdict \1/' \
-	-e 's/^verdict 11/an odd number of wrong bits, three or more: dropped, a double error/' \
+	-e 's/^verdict 11/odd syndrome, of no bit, as of three wrong bits: dropped, a double error/' \
 	-e 's/^verdict 10/the byte belongs to no fine delay setting: not stored/' \
 	-e 's/^verdict 1/broadcast, executed/' \
 	-e 's/^verdict 2/data stored in a register/' \
@@ -34,7 +34,7 @@ IN_WORDS = \
 	-e 's/^verdict 5/for another address: no effect/' \
 	-e 's/^verdict 6/unknown sub-address: no effect/' \
 	-e 's/^verdict 7/stop bit 0: dropped, a double error; then 41 ones/' \
-	-e 's/^verdict 8/an even number of wrong bits: dropped, a double error/' \
+	-e 's/^verdict 8/even syndrome, as of two wrong bits: dropped, a double error/' \
 	-e 's/^verdict 9/fixed bit 0: dropped, a double error/' \
 	-e 's/^end .*/single errors, double errors, events, bunch number/'
 
@@ -43,8 +43,8 @@ demo:
 	@$(PROGRAM) < docs/example.txt > target/demo.txt
 	@echo
 	@echo 'Left: docs/example.txt, one frame a line. Middle: what ttclines prints of each line, the number of the line and then verdict, corrected'
-	@echo 'flag, word and place of the corrected bit, or ! and the number of refusal. Right: the same in words. The receiver has ID 5 and starts'
-	@echo 'fresh.'
+	@echo 'flag and word of the frame, and the place of the corrected bit (not with 7, 8 and 11), or ! and the number of refusal. Right: the same in'
+	@echo 'words. The receiver has ID 5 and starts fresh.'
 	@echo
 	@sed -E $(IN_WORDS) target/demo.txt | paste docs/example.txt target/demo.txt - | expand -t 14,34
 

@@ -25,8 +25,8 @@
  * The place of a protected bit counts the frame's bits after the format bit, in the order sent, from 1:
  * the word's most significant bit has place 1, its least 8 or 32, and the check bits follow, 9 to 13 or
  * 33 to 39. The bit at a place is bit TTCRX_PLACES_SHORT + 1 - place of a short number, and bit
- * TTCRX_PLACES_LONG + 1 - place of a long one; flipped there, a corrected frame is the frame as it was
- * sent.
+ * TTCRX_PLACES_LONG + 1 - place of a long one. A corrected frame, flipped at its place, is the clean
+ * frame of the word that is answered; if no other bit was wrong, it is the frame as it was sent.
  */
 #ifndef TTCRX_H
 #define TTCRX_H
@@ -81,7 +81,7 @@ uint32_t ttcrx_version(void);
  * of the received word. With 8 the number of ones in it is even and not 0; with 11 it is odd, and the
  * syndrome belongs to no bit. If a frame was sent, and only protected bits were wrong, 8 means an even
  * number of them, two or more, and 11 an odd number, three or more. Two wrong bits always give 8. Three
- * may also look like one, which is then taken for corrected, and four like two or like none.
+ * may also look like one, so that the frame is corrected to another, and four like two or like none.
  *
  * After a finished frame with any other verdict than 7 the receiver waits for a start bit, and the next
  * bit may be one. After verdict 7 it wants 41 ones in a row on channel B first: a 0 among them is no
@@ -96,10 +96,10 @@ uint32_t ttcrx_version(void);
 #define TTCRX_VERDICT_OTHER_ADDRESS 5     /* addressed to another receiver: no effect */
 #define TTCRX_VERDICT_OTHER_SUB_ADDRESS 6 /* a sub-address without a meaning: no effect */
 #define TTCRX_VERDICT_STOP_BIT 7          /* the stop bit was 0: dropped; 41 ones are wanted then */
-#define TTCRX_VERDICT_EVEN_SYNDROME 8     /* an even number of bits was wrong: dropped */
+#define TTCRX_VERDICT_EVEN_SYNDROME 8     /* an even number of ones in the syndrome: dropped */
 #define TTCRX_VERDICT_FIXED_BIT 9         /* long, fixed bit 0 after correction: dropped */
 #define TTCRX_VERDICT_NO_SETTING 10       /* for register 0 or 1, but data 240 to 255: nothing stored */
-#define TTCRX_VERDICT_ODD_SYNDROME 11     /* an odd number of bits, three or more: dropped */
+#define TTCRX_VERDICT_ODD_SYNDROME 11     /* an odd number, which belongs to no bit: dropped */
 
 /* The field verdict of a decoder is this, or one of the verdicts 7, 8, 9 and 11. */
 #define TTCRX_DECODED_GOOD 0

@@ -1,7 +1,7 @@
 -- What decoding answers to a frame that was encoded, and conversely, from the facts of the code. Assumes nothing.
 use mathlib.Core.Path.{_≡_, refl, sym, ap, ap₂, _∙_, subst, subst⁻¹}
 use mathlib.Core.Bool.{Bool, true, false, cond}
-use mathlib.Core.Logic.{_≢_, inl, inr}
+use mathlib.Core.Logic.{_≢_, inl, inr, ⊎-elim}
 use mathlib.Core.List.{List, [], _∷_}
 use Prim.Native.Nat.{ℕ, _%_, _^_, _≤_, _<_}
 use native.Mathlib.Omega.{arith}
@@ -241,6 +241,22 @@ decoded-as : (columns : List ℕ) (kind : Kind) (number : ℕ) (P : Answer → T
 unfolding decodeFrame
 decoded-as columns kind number P frame refused = picked-by P (isFrame kind number) frame (λ e. refused)
 
+-- 7, 8 and 11 are answered alone
+verdict-alone : (columns : List ℕ) (kind : Kind) → Frames.VerdictAlone columns kind
+verdict-alone columns kind number verdict v =
+    decoded-as columns kind number (λ (answer : Answer). answer .verdict ≡ verdict → answer ≡ bareAnswer 0 verdict 0) (λ i. by-judged (judged columns kind number))
+    (λ e. absurd (other 0 e (λ z. omega arith) (λ z. omega arith) (λ z. omega arith)))
+  where
+    other : (n : ℕ) → n ≡ verdict → (n ≡ 7 → ⊥) → (n ≡ 8 → ⊥) → (n ≡ 11 → ⊥) → ⊥
+    other n e seven eight eleven = ⊎-elim (λ z. seven (e ∙ z)) (⊎-elim (λ z. eight (e ∙ z)) (λ z. eleven (e ∙ z))) v
+
+    by-judged : (j : Judged) → answerTo kind j .verdict ≡ verdict → answerTo kind j ≡ bareAnswer 0 verdict 0
+    by-judged StopZero e = ap (λ (n : ℕ). bareAnswer 0 n 0) e
+    by-judged EvenSyndrome e = ap (λ (n : ℕ). bareAnswer 0 n 0) e
+    by-judged OddSyndrome e = ap (λ (n : ℕ). bareAnswer 0 n 0) e
+    by-judged (FixedZero word) e = absurd (other 9 e (λ z. omega arith) (λ z. omega arith) (λ z. omega arith))
+    by-judged (Good word flag wrong) e = absurd (other 0 e (λ z. omega arith) (λ z. omega arith) (λ z. omega arith))
+
 -- an answer without flag has no place
 no-place : (kind : Kind) (refusal verdict word : ℕ) → Frames.PlaceByFlag kind (bareAnswer refusal verdict word)
 no-place kind refusal verdict word = record { zero-exactly = (λ z. refl, λ z. refl); last = omega arith }
@@ -285,6 +301,7 @@ frame-theorem columns kind len good = record {
   lead-flip = λ fields j r. decode-refused columns kind _ (lead-flipped kind (sent fields) 1 j (omega arith) (fits fields r));
   refuses-others = decode-refused columns kind;
   stop-exactly = stop-exactly;
+  verdict-alone = verdict-alone columns kind;
   fixed-bit-zero = λ word p h z b. decode-within word p h b ∙ answer-fixed kind word (flagOf p) p (fixed-is-zero kind word z);
   uncorrectable-exactly = exactly;
   decoded-only-if = only-if;

@@ -22,5 +22,5 @@ pub record BitsLaw : Type 0 where
   pub first : (n number : ℕ) → bitsOf (suc n) number ≡ number / 2 ^ n % 2 ∷ bitsOf n number
   pub all-bits : (n number : ℕ) → Bits (bitsOf n number)
   pub count : (n number : ℕ) → length (bitsOf n number) ≡ n
-  -- the first bit of a frame is the start bit, 0: the number has nothing at its place
+  -- the first bit of a frame is the start bit, 0: it adds nothing to the number
   pub start : (kind : Kind) (number : ℕ) → isFrame kind number ≡ true → number / 2 ^ (frameBits kind - 1) ≡ 0

@@ -97,7 +97,8 @@ TwoFlips columns kind =
     (word : ℕ) (p q : WrongBit) → word < 2 ^ dataBits kind → ProtectedIn kind p → ProtectedIn kind q → p ≢ q
     → decodeFrame columns kind (flipProtected kind q (flipProtected kind p (encodeWord columns kind word))) ≡ bareAnswer 0 8 0
 
--- any number of protected bits flipped, of any encoded word: an odd number never gives 8, and an even number never 11; fewer than two give neither
+-- any number of protected bits flipped, of any encoded word: an odd number never gives 8, and an even number never 11; 8 means two or more, 11 three or
+-- more
 pub record FlipsShow (count verdict : ℕ) : Type 0 where
   pub odd-not-8 : count % 2 ≡ 1 → verdict ≢ 8
   pub even-not-11 : count % 2 ≡ 0 → verdict ≢ 11
@@ -139,6 +140,12 @@ abbrev pub LeadFlip : List ℕ → Kind → Type 0
 LeadFlip columns kind =
     (fields : Fields) (j : ℕ) → InRange kind fields
     → decodeFrame columns kind (flipLead kind j (encodeFields columns kind fields)) ≡ bareAnswer 12 0 0
+
+-- with verdicts 7, 8 and 11 all else that is answered is 0
+abbrev pub VerdictAlone : List ℕ → Kind → Type 0
+VerdictAlone columns kind =
+    (number verdict : ℕ) → (verdict ≡ 7) ⊎ ((verdict ≡ 8) ⊎ (verdict ≡ 11)) → decodeFrame columns kind number .verdict ≡ verdict
+    → decodeFrame columns kind number ≡ bareAnswer 0 verdict 0
 
 -- whatever the other bits are: a number that is no such frame is refused by 12
 abbrev pub RefusesOthers : List ℕ → Kind → Type 0
@@ -209,6 +216,7 @@ pub record FrameFacts (columns : List ℕ) (kind : Kind) : Type 0 where
   pub lead-flip : LeadFlip columns kind
   pub refuses-others : RefusesOthers columns kind
   pub stop-exactly : StopExactly columns kind
+  pub verdict-alone : VerdictAlone columns kind
   pub fixed-bit-zero : FixedBitZero columns kind
   pub uncorrectable-exactly : UncorrectableExactly columns kind
   pub decoded-only-if : DecodedOnlyIf columns kind

@@ -332,9 +332,8 @@ pub fn decode_finished(short: &[u8], long: &[u8], kind: Kind, number: u64) -> An
     }
 }
 
-// What a number says as a short frame. The decoders share no function beyond `judge` and `answer_to`:
-// with the test in one for both kinds, the compiler makes a call of it, and decoding takes twice the
-// time.
+// What a number says as a short frame. Each decoder tests for refusal 12 itself: one function for both
+// kinds would not be inlined, and decoding would take twice the time.
 pub fn decode_short(number: u64) -> Answer
     ensures { λ r. ⌜ r ≡ decodeFrame shortColumns Short number ⌝ }
 {

@@ -143,9 +143,10 @@ module _ (columns : Kind → List ℕ) (good : GoodTables columns) where
   not-7 verdict (inr v) z = omega arith
 
   pub drops-uncorrectable : flips.DropsUncorrectable columns
-  drops-uncorrectable r before trigger bit kind number verdict v decodes s =
+  drops-uncorrectable r before trigger bit kind number verdict v answered s =
+      let decodes = facts kind .verdict-alone number verdict (inr v) answered in
       let frame = is-frame (columns kind) kind number (facts kind) (ap (λ (a : Answer). a .refusal) decodes) in
-      let stop = stop-one (columns kind) kind number (facts kind) frame (λ z. not-7 verdict v (sym (ap (λ (a : Answer). a .verdict) decodes) ∙ z)) in
+      let stop = stop-one (columns kind) kind number (facts kind) frame (λ z. not-7 verdict v (sym answered ∙ z)) in
       let e = ending columns laws r before trigger bit kind number frame stop s in
       let waits : Waits (lastCall columns r (idle before) (clock trigger 1) .receiver) = rw (e .idle-ends) (waits-none (idleClock (e .core) trigger .core)) in
       let nothing = idle-shows r before trigger bit kind number e in
@@ -160,7 +161,7 @@ module _ (columns : Kind → List ℕ) (good : GoodTables columns) where
   two-flips : demand.TwoFlips columns
   two-flips r before trigger bit kind fields p q range protected protected′ differ s =
       drops-uncorrectable r before trigger bit kind _ _ (inl refl)
-      (facts kind .two-flips (wordOf kind fields) p q (word-fits kind fields range) protected protected′ differ) s
+      (ap (λ (a : Answer). a .verdict) (facts kind .two-flips (wordOf kind fields) p q (word-fits kind fields range) protected protected′ differ)) s
 
 pub demand3-theorem : demand.Demand3Theorem
 demand3-theorem columns good =

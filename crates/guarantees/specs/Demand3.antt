@@ -1,4 +1,5 @@
--- Document 01, "Demand 3, over lists of calls", with document 02, Q-1, Q-4 and Q-8: the statement, over the columns of each kind of frame. Proved in proofs/Demand3.antt.
+-- Document 01, "Demand 3, over lists of calls", with document 02, Q-1, Q-4 and Q-8: the statement, over the columns of each kind of frame.
+-- Proved in proofs/Demand3.antt.
 -- "It is one claim about the whole list and not one for each call." What a single call gives is fixed by the definitions that `call` of Calls.antt
 -- cites, with `ClockLaws` of the crate `receiver`, `ReadLaws` and `WriteLaws` of `registers` and `ByteLaws` of `register_map`; of these, the record
 -- repeats only what a refused call leaves and answers, and that a read leaves the state.

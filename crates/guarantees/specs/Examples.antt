@@ -107,7 +107,7 @@ pub record MoreFlips : Type 0 where
   -- three, of data bits 0, 1 and 6: the syndrome is 26, which belongs to no bit; verdict 11
   pub three-flips : Gives (sending (flipEachProtected Short (Data 0 ∷ Data 1 ∷ Data 6 ∷ []) frame)) (droppedLast 11) (0 ∷ 1 ∷ 1 ∷ 16 ∷ 2 ∷ 1 ∷ 0 ∷ [])
   -- three others look like one: the broadcast of byte 0, sent with data bits 0, 1 and 2 flipped, is taken for that of byte 7 with a wrong check bit, is
-  -- executed, and clears the bunch and the event counter. The place is that of a check bit, and no bit there was flipped.
+  -- executed, and clears the bunch and the event counter. The place is that of a check bit, which was not flipped.
   pub three-as-one : Gives (sending (flipEachProtected Short (Data 2 ∷ Data 1 ∷ Data 0 ∷ []) zeroFrame)) (broadcastLast 1 13 7) (1 ∷ 0 ∷ 1 ∷ 0 ∷ 0 ∷ 1 ∷ 0 ∷ [])
   -- four look like two: verdict 8
   pub four-as-two : Gives (sending (flipEachProtected Short (Check 0 ∷ Data 7 ∷ Data 6 ∷ Data 5 ∷ []) frame)) (droppedLast 8) (0 ∷ 1 ∷ 1 ∷ 16 ∷ 2 ∷ 1 ∷ 0 ∷ [])

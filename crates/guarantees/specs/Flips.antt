@@ -1,4 +1,5 @@
--- Document 02, Q-8, "Say what was wrong and which bit", over lists of calls: frames with any number of wrong bits, over the columns of each kind of frame.
+-- Document 02, Q-8, "Say what was wrong and which bit", over lists of calls: frames with any number of protected bits flipped, and those that can't be
+-- corrected, over the columns of each kind of frame.
 -- Proved in proofs/Flips.antt. One flip and two are in Demand3.antt.
 -- "Shift leaders want to tell two flips from a storm. Verdict 8 is kept for an even number of ones in the syndrome; verdict 11 is given for an odd number
 -- that belongs to no bit."
@@ -12,7 +13,7 @@ use Rattle.frame.specs.declared.Kind.{Kind}
 use Rattle.frame.specs.declared.Fields.{Fields}
 use Rattle.frame.specs.Columns.{columnsOf, GoodTables}
 use Rattle.frame.specs.Encode.{encodeFields}
-use Rattle.frame.specs.Decode.{bareAnswer, decodeFrame}
+use Rattle.frame.specs.Decode.{decodeFrame}
 use Rattle.frame.specs.Frames.{InRange, flipEachProtected, EachProtectedIn, FlipsShow}
 use Rattle.receiver_state.specs.declared.Receiver.{Receiver}
 use Rattle.guarantees.specs.Calls.{Call, clock}
@@ -42,7 +43,7 @@ module _ (columns : Kind → List ℕ) where
   abbrev pub DropsUncorrectable : Type 0
   DropsUncorrectable =
       (r : Receiver) (before : List Call) (trigger bit : ℕ) (kind : Kind) (number verdict : ℕ)
-      → (verdict ≡ 8) ⊎ (verdict ≡ 11) → decodeFrame (columns kind) kind number ≡ bareAnswer 0 verdict 0
+      → (verdict ≡ 8) ⊎ (verdict ≡ 11) → decodeFrame (columns kind) kind number .verdict ≡ verdict
       → Sends r before trigger bit kind number
       → UncorrectableFrame columns r before trigger bit verdict
 

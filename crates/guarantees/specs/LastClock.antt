@@ -1,4 +1,5 @@
--- Document 01, "Demand 3, over lists of calls", with document 02, Q-8: what the last clock of a list that carries a frame leaves and answers, as a whole and by name.
+-- Document 01, "Demand 3, over lists of calls", with document 02, Q-8: what the last clock of a list that carries a frame leaves and answers, as a whole
+-- and by name.
 -- A result or a core named `idle` is what the last clock of the idle list leaves and answers, or leaves.
 -- Words in quotation marks that document 01 does not have are the customer's demand 3.
 use Prim.Native.Nat.{ℕ, _/_, _%_, _<_}
@@ -131,7 +132,7 @@ doubleErrorMayChange = record { settings = ⊥; single = ⊥; double = Unit {0};
 -- ---- the last clock, by name
 
 -- "On the last clock a clean frame has verdict and effect of the table's row for its fields .., its 8 data or 32 word bits as the word, flag 0, and
--- status bit 5 becomes 1; the rest of outputs and state is the idle list's." `own` are the receiver's IDs.
+-- status bit 5 becomes 1; the rest of outputs and state is the idle list's." The place is 0 where the flag is (Q-8). `own` are the receiver's IDs.
 -- What a later request adds to the effect of a frame belongs in `EffectOf`.
 pub record CleanLast (kind : Kind) (fields : Fields) (own : Ids) (idle done : CallResult) : Type 0 where
   pub not-refused : done .answer .refusal ≡ 0
@@ -158,7 +159,7 @@ pub record CorrectedLast (place : ℕ) (clean done : CallResult) : Type 0 where
   pub others-same : OthersSame correctionMayChange clean done
   pub waits : Waits (done .receiver)
 
--- two flipped, with verdict 8: "With two flips all outputs but the verdict are the idle list's."
+-- a frame that can't be corrected, with verdict 8 or 11. Of two flips: "With two flips all outputs but the verdict are the idle list's."
 pub record UncorrectableLast (verdict : ℕ) (idle done : CallResult) : Type 0 where
   pub verdict-is : done .answer .outputs .verdict ≡ verdict
   pub flag-same : done .answer .outputs .corrected ≡ idle .answer .outputs .corrected

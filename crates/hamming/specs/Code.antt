@@ -1,5 +1,5 @@
 -- Document 01, "Frames on channel B": check number, syndrome, and what the decoder of a word answers, over any list of columns.
--- The column of data bit i, "0 = least", stands at place i. `Found`, `WrongBit` and `Decoded` are the enums of src/lib.rt.
+-- The column of data bit i, "0 = least", stands at index i. `Found`, `WrongBit` and `Decoded` are the enums of src/lib.rt.
 use Prim.Native.Nat.{ℕ, suc, _/_, _%_, _^_}
 use mathlib.Core.Bool.{true, false, cond}
 use mathlib.Core.List.{List, [], _∷_}

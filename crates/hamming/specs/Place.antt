@@ -20,7 +20,7 @@ placeOf n w (Check j) = n + w - j
 unfoldable pub bitAt : ℕ → ℕ → ℕ → WrongBit
 bitAt n w place = cond (eqb place 0) None (cond (ltb n place) (Check (n + w - place)) (Data (n - place)))
 
--- places and protected bits correspond one to one, and no bit has place 0
+-- places and protected bits correspond one to one, and no protected bit has place 0
 pub record PlaceLaws (n w : ℕ) : Type 0 where
   pub first : (p : WrongBit) → Protected n w p → 1 ≤ placeOf n w p
   pub last : (p : WrongBit) → placeOf n w p ≤ n + w

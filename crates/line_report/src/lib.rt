@@ -56,7 +56,7 @@ pub struct Reported {
     pub room_wanted: usize,
 }
 
-// What a line's end leaves: the report, and the place after its text in the buffer.
+// What a line's end leaves: the report, and the position after its text in the buffer.
 struct Ended {
     report: Report,
     next: usize,

@@ -1,5 +1,6 @@
 // Document 01, "Stored lines", with document 02, Q-8: the text of a line's report, and of the end.
-// Each function stores its text from a place of the buffer on, where there is room for it, and answers the place after it.
+// Each function stores its text from a position of the buffer on, where there is room for it, and
+// answers the position after it.
 ghost use mathlib.Core.Path.{_≡_};
 ghost use mathlib.Core.List.{[], _∷_};
 ghost use Prim.Native.Nat.{_+_, _≤_, _<_};

@@ -1,4 +1,5 @@
--- Document 01, "Fate of a finished frame", with document 02, Q-4 and Q-8, as facts of what a clock shows and leaves: the words of Laws.antt, here and in the crate `receiver`.
+-- Document 01, "Fate of a finished frame", with document 02, Q-4 and Q-8, as facts of what a clock shows and leaves: the words of Laws.antt, here and in
+-- the crate `receiver`.
 use Prim.Native.Nat.{ℕ, _+_, _/_, _%_, _^_, _<_, _≤_}
 use mathlib.Core.Path.{_≡_}
 use mathlib.Core.Logic.{_≢_, _⊎_, _↔_}

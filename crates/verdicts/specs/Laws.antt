@@ -1,4 +1,5 @@
--- Document 01, "Fate of a finished frame", with document 02, Q-4 and Q-8: what holds of every finished frame, over the columns of each kind. Proved in proofs/Laws.antt.
+-- Document 01, "Fate of a finished frame", with document 02, Q-4 and Q-8: what holds of every finished frame, over the columns of each kind.
+-- Proved in proofs/Laws.antt.
 use Prim.Native.Nat.{ℕ, _≤_}
 use mathlib.Core.Path.{_≡_}
 use mathlib.Core.Logic.{_≢_, _↔_}

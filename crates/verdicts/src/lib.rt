@@ -1,5 +1,6 @@
-// Document 01, "Fate of a finished frame", with document 02, Q-4 and Q-8: the table of verdicts, as a change of
-// what steps 1 and 2 of the same clock leave and show. Every function takes any decoded frame and any core.
+// Document 01, "Fate of a finished frame", with document 02, Q-4 and Q-8: the table of verdicts, as a
+// change of what steps 1 and 2 of the same clock leave and show. Every function takes any decoded frame
+// and any core.
 //
 // The core and the outputs go by value, like the state that they belong to.
 ghost use mathlib.Core.Path.{_≡_};

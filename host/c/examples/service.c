@@ -14,10 +14,10 @@ static const char *fate(uint32_t verdict)
     case TTCRX_VERDICT_OTHER_ADDRESS: return ", a frame for another receiver";
     case TTCRX_VERDICT_OTHER_SUB_ADDRESS: return ", a frame without a meaning here";
     case TTCRX_VERDICT_STOP_BIT: return ", a frame dropped: stop bit";
-    case TTCRX_VERDICT_EVEN_SYNDROME: return ", a frame dropped: an even number of wrong bits";
+    case TTCRX_VERDICT_EVEN_SYNDROME: return ", a frame dropped: even syndrome";
     case TTCRX_VERDICT_FIXED_BIT: return ", a frame dropped: fixed bit";
     case TTCRX_VERDICT_NO_SETTING: return ", a frame with a fine delay of no setting";
-    case TTCRX_VERDICT_ODD_SYNDROME: return ", a frame dropped: three or more wrong bits";
+    case TTCRX_VERDICT_ODD_SYNDROME: return ", a frame dropped: odd syndrome";
     default: return ", a frame executed";
     }
 }
