@@ -343,9 +343,9 @@ typedef struct ttcrx_reported {
                            the same call does nothing, however often it is made */
 } ttcrx_reported;
 
-/* Room for the text of any line, and room that is always enough for the end. */
+/* The longest text of a line, and of the end: so much room is always enough. */
 #define TTCRX_LONGEST_LINE 38
-#define TTCRX_LONGEST_END 69
+#define TTCRX_LONGEST_END 66
 
 /* The short frame of a byte. Refuses nothing. */
 ttcrx_encoded ttcrx_encode_short(uint8_t data);

@@ -105,7 +105,7 @@ static void check_input_room(void)
     CHECK(text_is(&on, "18446744073709551615 10 1 001500F3 39\n") && on.length == line);
 }
 
-/* A last line without line feed; a buffer of under 69 bytes takes no end. */
+/* A last line without line feed; a buffer of under 66 bytes takes no end. */
 static void check_last_line(void)
 {
     reporting on = begin();

@@ -62,7 +62,7 @@ pub const BLOCK_CLOCKS: usize = 4096;
 pub const RECORD_NUMBERS: usize = 5;
 
 pub const LONGEST_LINE: usize = 38;
-pub const LONGEST_END: usize = 69;
+pub const LONGEST_END: usize = 66;
 
 /// Structs of ttcrx.h: size and alignment in bytes, and each field with its offset. All are
 /// asserted at compile time.

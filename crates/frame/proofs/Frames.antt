@@ -245,17 +245,20 @@ decoded-as columns kind number P frame refused = picked-by P (isFrame kind numbe
 verdict-alone : (columns : List ℕ) (kind : Kind) → Frames.VerdictAlone columns kind
 verdict-alone columns kind number verdict v =
     decoded-as columns kind number (λ (answer : Answer). answer .verdict ≡ verdict → answer ≡ bareAnswer 0 verdict 0) (λ i. by-judged (judged columns kind number))
-    (λ e. absurd (other 0 e (λ z. omega arith) (λ z. omega arith) (λ z. omega arith)))
+    (λ e. absurd (never-0 e))
   where
-    other : (n : ℕ) → n ≡ verdict → (n ≡ 7 → ⊥) → (n ≡ 8 → ⊥) → (n ≡ 11 → ⊥) → ⊥
-    other n e seven eight eleven = ⊎-elim (λ z. seven (e ∙ z)) (⊎-elim (λ z. eight (e ∙ z)) (λ z. eleven (e ∙ z))) v
+    never-0 : 0 ≡ verdict → ⊥
+    never-0 e = ⊎-elim (λ z. omega arith) (⊎-elim (λ z. omega arith) (λ z. omega arith)) v
+
+    never-9 : 9 ≡ verdict → ⊥
+    never-9 e = ⊎-elim (λ z. omega arith) (⊎-elim (λ z. omega arith) (λ z. omega arith)) v
 
     by-judged : (j : Judged) → answerTo kind j .verdict ≡ verdict → answerTo kind j ≡ bareAnswer 0 verdict 0
     by-judged StopZero e = ap (λ (n : ℕ). bareAnswer 0 n 0) e
     by-judged EvenSyndrome e = ap (λ (n : ℕ). bareAnswer 0 n 0) e
     by-judged OddSyndrome e = ap (λ (n : ℕ). bareAnswer 0 n 0) e
-    by-judged (FixedZero word) e = absurd (other 9 e (λ z. omega arith) (λ z. omega arith) (λ z. omega arith))
-    by-judged (Good word flag wrong) e = absurd (other 0 e (λ z. omega arith) (λ z. omega arith) (λ z. omega arith))
+    by-judged (FixedZero word) e = absurd (never-9 e)
+    by-judged (Good word flag wrong) e = absurd (never-0 e)
 
 -- an answer without flag has no place
 no-place : (kind : Kind) (refusal verdict word : ℕ) → Frames.PlaceByFlag kind (bareAnswer refusal verdict word)

@@ -36,10 +36,9 @@ use Rattle.stored_line.specs.declared.StoredLine.the-variants.{Frame, Refused}
 use Rattle.stored_line.proofs.Digits.{length-digits}
 use Rattle.stored_line.proofs.Refusals.{RefusalSmall, refusal-small}
 use Rattle.line_report.specs.declared.LinePart.{LinePart}
-use Rattle.line_report.specs.Text.{decimal, wordDigits, printsDash, wordText, printsPlace, placeText, verdictText, refusalText, answerText, lineText, countsText, endText}
+use Rattle.line_report.specs.Text.{decimal, wordDigits, printsDash, wordText, printsPlace, placeText, verdictText, refusalText, answerText, lineText}
 use Rattle.line_report.specs.Output.{feedLine, nextLine, linePrints}
 use Rattle.line_report.specs.declared.Report.{Report}
-use Rattle.line_report.specs.Write.{TextAt}
 use Rattle.line_report.specs.Report.{readPart, digitsOf, longestAnswer, longestLine, lastPrints}
 use Rattle.line_report.proofs.Decimal.{one-digit, few-digits, twenty-digits}
 
@@ -144,7 +143,7 @@ verdict-length digits shown h s =
     let all = length-append (decimal (shown .verdict)) ((32 ∷ decimal (shown .corrected)) ++ (32 ∷ (wordText digits shown ++ placeText shown))) in
     omega (arith, word-length digits shown h, place-length shown s)
 
-refusal-length : (refusal : ℕ) → refusal < 1000 → length (refusalText refusal) ≤ longestAnswer
+pub refusal-length : (refusal : ℕ) → refusal < 1000 → length (refusalText refusal) ≤ 5
 unfolding refusalText
 refusal-length refusal h = omega (arith, few-digits 2 refusal h (omega arith))
 
@@ -152,7 +151,7 @@ answer-length : (digits : ℕ) (answer : ClockAnswer) → digits ≤ 8 → Small
 unfolding answerText
 answer-length digits answer h s =
     picked (λ (text : List ℕ). length text ≤ longestAnswer) (eqb (answer .refusal) 0) (verdict-length digits (answer .outputs) h (s .outputs-small))
-    (refusal-length (answer .refusal) (s .refusal-below))
+    (omega (arith, refusal-length (answer .refusal) (s .refusal-below)))
 
 digits-small : (line : StoredLine) → wordDigits line ≤ 8
 digits-small (Frame Short number) = omega arith
@@ -168,29 +167,7 @@ line-length columns r lines line s =
     let all = length-append (decimal (nextLine lines)) (32 ∷ (answerText (wordDigits line) answer ++ (10 ∷ []))) in
     omega (arith, twenty-digits (nextLine lines))
 
--- ---- the end
-
-end-length : (single double event bunch : ℕ) → single < 2 ^ 16 → double < 2 ^ 8 → event < 2 ^ 32 → bunch < 2 ^ 16
-    → length (endText single double event bunch) ≤ 31
-unfolding endText countsText
-end-length single double event bunch s d e b =
-    let singles = few-digits 4 single (omega arith) (omega arith) in
-    let doubles = few-digits 2 double (omega arith) (omega arith) in
-    let events = few-digits 9 event (omega arith) (omega arith) in
-    let bunches = few-digits 4 bunch (omega arith) (omega arith) in
-    let two = length-append (32 ∷ decimal event) (32 ∷ decimal bunch) in
-    let three = length-append (32 ∷ decimal double) ((32 ∷ decimal event) ++ (32 ∷ decimal bunch)) in
-    let four = length-append (32 ∷ decimal single) ((32 ∷ decimal double) ++ ((32 ∷ decimal event) ++ (32 ∷ decimal bunch))) in
-    let all = length-append ((32 ∷ decimal single) ++ ((32 ∷ decimal double) ++ ((32 ∷ decimal event) ++ (32 ∷ decimal bunch)))) (10 ∷ []) in
-    omega arith
-
-pub end-room : (single double event bunch at : ℕ) {size : ℕ} → at + 31 ≤ size → single < 2 ^ 16 → double < 2 ^ 8 → event < 2 ^ 32 → bunch < 2 ^ 16
-    → at + length (endText single double event bunch) ≤ size
-end-room single double event bunch at h s d e b = omega (arith, end-length single double event bunch s d e b)
-
-pub end-below : (single double event bunch : ℕ) {at next : ℕ} {before after : List ℕ} → TextAt next at (endText single double event bunch) before after
-    → single < 2 ^ 16 → double < 2 ^ 8 → event < 2 ^ 32 → bunch < 2 ^ 16 → next ≤ at + 31
-end-below single double event bunch t s d e b = omega (arith, t .next-is, end-length single double event bunch s d e b)
+-- ---- the last line
 
 pub last-length : (columns : Kind → List ℕ) (now : Report) → length (lastPrints columns now) ≤ longestLine
 unfolding lastPrints

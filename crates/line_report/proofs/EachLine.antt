@@ -41,17 +41,31 @@ module _ (columns : Kind → List ℕ) (law : WholeFrameLaw columns) where
       (λ e. law .waits-again r kind number w waits e n)
       (λ e. subst (λ (a : ClockAnswer). Waits (a .receiver)) (sym (no-frame r kind number w e)) waits)
 
-  -- what a line leaves, and the ones that may follow it
-  after-line : (r : Receiver) (line : StoredLine) → Ready r → Ready (afterLine columns r line)
+  -- what a line leaves, and the ones that may follow it: a well-formed receiver
+  pub line-keeps : (r : Receiver) (line : StoredLine) → wellFormed r ≡ true → wellFormed (afterLine columns r line) ≡ true
   unfolding onesSent
-  after-line r (Refused refusal) ready = ready
-  after-line r (Frame kind number) ready =
+  line-keeps r (Refused refusal) w = w
+  line-keeps r (Frame kind number) w =
+      by-test (eqb (receiveAnswer columns r kind number .outputs .verdict) 7)
+      (λ t.
+      let left = law .wants-after-7 r kind number (eqb-true _ 7 t) in
+      rw t (law .ones-after-7 (receiveAnswer columns r kind number .receiver) (left .0) (left .1) .1))
+      (λ t. rw t (law .stays-well-formed r kind number w))
+
+  -- that waits, if it did before
+  line-waits : (r : Receiver) (line : StoredLine) → Ready r → Waits (afterLine columns r line)
+  unfolding onesSent
+  line-waits r (Refused refusal) ready = ready .1
+  line-waits r (Frame kind number) ready =
       by-test (eqb (receiveAnswer columns r kind number .outputs .verdict) 7)
       (λ t.
       let left = law .wants-after-7 r kind number (eqb-true _ 7 t) in
       let ones = law .ones-after-7 (receiveAnswer columns r kind number .receiver) (left .0) (left .1) in
-      rw t (ones .1, subst (λ (a : ClockAnswer). Waits (a .receiver)) (sym (ones .0)) (waits-none _)))
-      (λ t. rw t (law .stays-well-formed r kind number (ready .0), frame-waits r kind number ready (eqb-false _ 7 t)))
+      rw t (subst (λ (a : ClockAnswer). Waits (a .receiver)) (sym (ones .0)) (waits-none _)))
+      (λ t. rw t (frame-waits r kind number ready (eqb-false _ 7 t)))
+
+  after-line : (r : Receiver) (line : StoredLine) → Ready r → Ready (afterLine columns r line)
+  after-line r line ready = (line-keeps r line (ready .0), line-waits r line ready)
 
   lines-wait : (lines : List (List ℕ)) (r : Receiver) → Ready r → Ready (linesLeave columns r lines)
   unfolding linesLeave

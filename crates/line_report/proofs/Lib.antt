@@ -5,6 +5,7 @@ pub mod LineSoFar
 pub mod Bounds
 mod Ones
 pub mod EachLine
+pub mod EndLength
 pub mod Work
 pub mod Turn
 pub mod Cuts

@@ -1,4 +1,4 @@
--- A line's text of 38 bytes, and an end of 31 and of 66, computed. Assumes nothing.
+-- A line's text of 38 bytes, and an end of 66, computed. Assumes nothing.
 use mathlib.Core.Path.{refl}
 use lib.Count.{ones, trailingZeros}
 use Rattle.laws.specs.Tests.{every}
@@ -27,4 +27,4 @@ use Rattle.line_report.specs.Cuts.{LongestReached}
 
 pub longest-reached : LongestReached
 unfolding hasSetting every ones trailingZeros lowestOne checkNumber syndrome firstFrom bySyndrome decodeWord isFrame judged idsOk settingsOk countersOk sequenceOk coreOk bitsOk wantedOk heldOk wellFormed upTo doubleUp clearedBy withoutSetting stored foreign longRow tableRow countErrors finished finishedAnswer frameOrPart betweenFrames takeBit heldAfter countClock continued started busStep idleClock stepAnswer clockAnswer bitsOf clocksAnswer receiveAnswer digitValue allDigits hexNumber hexAnswer digitCharacter hexDigits readLine decimalUpTo decimal oneOf printsDash wordText printsPlace placeText verdictText refusalText answerText lineText countsText endText readPart bytePrints afterLast lastPrints onesSent
-longest-reached = record { line = refl; counts = refl; full-is-well-formed = refl; last-line = refl }
+longest-reached = record { line = refl; full-is-well-formed = refl; end = refl }

@@ -1,5 +1,5 @@
 -- A turn of the loop keeps what comes of it all, and the last one leaves nothing to do. Assumes nothing.
-use mathlib.Core.Path.{_≡_, refl, sym, ap, ap₂, _∙_}
+use mathlib.Core.Path.{_≡_, refl, sym, ap, ap₂, _∙_, subst}
 use mathlib.Core.Logic.{_≢_}
 use mathlib.Core.List.{List, [], _∷_, _++_}
 use Prim.Native.Nat.{ℕ, suc, _+_, _-_, _≤_, _<_}
@@ -11,18 +11,21 @@ use lib.ListN.{length, take, drop, length-append, length-drop, drop-of-length-le
 use lib.Seq.{sets, take-all, drop-drop}
 use Rattle.laws.proofs.Rules.{picked}
 use Rattle.frame.specs.declared.Kind.{Kind}
+use Rattle.frame.specs.Columns.{columnsOf}
 use Rattle.stored_line.specs.declared.StoredLine.{StoredLine}
 use Rattle.stored_line.proofs.Refusals.{RefusalSmall}
 use Rattle.line_report.specs.declared.LinePart.{LinePart}
 use Rattle.line_report.specs.declared.Report.{Report}
 use Rattle.line_report.specs.declared.Reported.{Reported}
 use Rattle.line_report.specs.Text.{coreEndText}
-use Rattle.line_report.specs.Write.{TextAt}
-use Rattle.line_report.specs.Report.{report, withCharacters, readPart, lineEnded, lineEndPrints, untilFeed, longestLine, Work, work, workOn, reportDone, doneBy, roomWanted, reportInput, longestEnd, afterLast, lastPrints, endWork, endWanted, reportEnd}
+use Rattle.line_report.specs.Write.{TextAt, RoomForEnd}
+use Rattle.line_report.specs.Report.{report, withCharacters, readPart, lineEnded, lineEndPrints, untilFeed, longestLine, Work, work, workOn, reportDone, doneBy, roomWanted, reportInput, longestEnd, afterLast, lastPrints, endPrints, endWork, endWanted, reportEnd}
+use Rattle.line_report.specs.Cuts.{TypesHold}
 use Rattle.line_report.specs.Turn.{placed, finishedFrom, Turned}
 use Rattle.laws.proofs.Sets.{sets-append, sets-front}
 use Rattle.line_report.proofs.Write.{then-text, kept-length}
-use Rattle.line_report.proofs.Bounds.{part-small, line-length, last-length}
+use Rattle.line_report.proofs.Bounds.{part-small, line-length}
+use Rattle.line_report.proofs.EndLength.{no-longer-end}
 use Rattle.line_report.proofs.Work.{no-room, to-the-end, lineTo, textTo, workBehind, to-the-feed, work-fits}
 
 -- an answer that no lack of room has stopped
@@ -200,23 +203,31 @@ module _ (columns : Kind → List ℕ) (now : Report) (input buffer : List ℕ) 
 
 -- ---- the end
 
-pub counts-room : (columns : Kind → List ℕ) (now : Report) {buffer buffer₁ : List ℕ} {next : ℕ} → longestEnd ≤ length buffer
-    → TextAt next 0 (lastPrints columns now) buffer buffer₁ → next + 31 ≤ length buffer₁
-counts-room columns now room s = omega (arith, s .next-is, kept-length s, last-length columns now)
+-- the text of the whole end fits
+pub counts-room : (now ended : Report) {buffer buffer₁ : List ℕ} {next : ℕ} → longestEnd ≤ length buffer
+    → ended ≡ afterLast columnsOf now → TextAt next 0 (lastPrints columnsOf now) buffer buffer₁
+    → let core = ended .receiver .core in
+    RoomForEnd (core .errors .single) (core .errors .double) (core .counters .event) (core .counters .bunch) next buffer₁
+counts-room now ended room e s single double event bunch =
+    let types : TypesHold (ended .receiver .core) = record { single-16 = single; double-8 = double; event-32 = event; bunch-16 = bunch } in
+    let no-longer : length (endPrints columnsOf now) ≤ longestEnd = no-longer-end now (subst (λ (r : Report). TypesHold (r .receiver .core)) e types) in
+    let same : length (coreEndText (ended .receiver .core)) ≡ length (coreEndText (afterLast columnsOf now .receiver .core)) =
+    ap (λ (r : Report). length (coreEndText (r .receiver .core))) e in
+    omega
+    (arith, s .next-is, kept-length s, no-longer, same, length-append (lastPrints columnsOf now) (coreEndText (afterLast columnsOf now .receiver .core)))
 
-pub written-below : (columns : Kind → List ℕ) (now : Report) {buffer buffer₁ : List ℕ} {next written : ℕ} → longestEnd ≤ length buffer
-    → TextAt next 0 (lastPrints columns now) buffer buffer₁ → written ≤ next + 31 → written ≤ length buffer
-written-below columns now room s below = omega (arith, s .next-is, last-length columns now)
-
-pub all-ended : (columns : Kind → List ℕ) (now ended : Report) {buffer buffer₁ buffer₂ : List ℕ} {next written : ℕ} → longestEnd ≤ length buffer
-    → ended ≡ afterLast columns now → TextAt next 0 (lastPrints columns now) buffer buffer₁
-    → TextAt written next (coreEndText (ended .receiver .core)) buffer₁ buffer₂ → written ≤ next + 31
-    → reportDone (reported ended 0 written) buffer₂ ≡ reportEnd columns now buffer
+pub all-ended : (now ended : Report) {buffer buffer₁ buffer₂ : List ℕ} {next written : ℕ} → longestEnd ≤ length buffer
+    → ended ≡ afterLast columnsOf now → TextAt next 0 (lastPrints columnsOf now) buffer buffer₁
+    → TextAt written next (coreEndText (ended .receiver .core)) buffer₁ buffer₂ → written ≤ length buffer₂
+    → (reportDone (reported ended 0 written) buffer₂ ≡ reportEnd columnsOf now buffer) × (written ≤ length buffer)
 unfolding endWork endWanted
-all-ended columns now ended {buffer} room e s t below =
-    let both = then-text (lastPrints columns now) (coreEndText (ended .receiver .core)) s t in
-    let text = lastPrints columns now ++ coreEndText (ended .receiver .core) in
-    let fits : length text ≤ length buffer = omega (arith, both .next-is, s .next-is, last-length columns now) in
-    ap₂ (λ (w : ℕ) (b : List ℕ). reportDone (reported ended 0 w) b) (both .next-is ∙ zero-add (length text)) (both .stored ∙ sets-front text buffer fits)
-    ∙ ap (λ (r : Report). doneBy 0 (work r 0 (lastPrints columns now ++ coreEndText (r .receiver .core))) buffer) e
-    ∙ rw (le-ltb (length buffer) longestEnd room) refl
+all-ended now ended {buffer} room e s t below =
+    let both = then-text (lastPrints columnsOf now) (coreEndText (ended .receiver .core)) s t in
+    let text = lastPrints columnsOf now ++ coreEndText (ended .receiver .core) in
+    let same = kept-length both in
+    let fits : length text ≤ length buffer = omega (arith, both .next-is) in (
+      ap₂ (λ (w : ℕ) (b : List ℕ). reportDone (reported ended 0 w) b) (both .next-is ∙ zero-add (length text)) (both .stored ∙ sets-front text buffer fits)
+          ∙ ap (λ (r : Report). doneBy 0 (work r 0 (lastPrints columnsOf now ++ coreEndText (r .receiver .core))) buffer) e
+          ∙ rw (le-ltb (length buffer) longestEnd room) refl,
+      omega arith,
+    )

@@ -30,6 +30,10 @@ nothing-stored at before = record { next-is = omega arith; stored = refl }
 pub kept-length : {n at : ℕ} {text before after : List ℕ} → TextAt n at text before after → length after ≡ length before
 kept-length {n} {at} {text} {before} t = ap length (t .stored) ∙ length-sets before at text
 
+-- a text with room ends within the buffer
+pub text-below : {n at : ℕ} {text before after : List ℕ} → TextAt n at text before after → at + length text ≤ length before → n ≤ length after
+text-below t h = omega (arith, t .next-is, kept-length t)
+
 -- room for both is room for the first, and then for the second
 pub room-first : (at : ℕ) (first second : List ℕ) {room : ℕ} → at + length (first ++ second) ≤ room → at + length first ≤ room
 room-first at first second h = omega (arith, length-append first second)

@@ -8,14 +8,14 @@ use mathlib.Core.List.{List, [], _∷_, _++_}
 use lib.ListN.{length, take, drop}
 use Rattle.frame.specs.declared.Kind.{Kind}
 use Rattle.frame.specs.Columns.{columnsOf}
+use Rattle.receiver_state.specs.declared.Core.{Core}
 use Rattle.receiver_state.specs.declared.Receiver.{Receiver}
 use Rattle.receiver_state.specs.State.{ids, errors, counters, receiver, withErrors, withCounters, nothingHeld, freshCore}
 use Rattle.receiver_state.specs.WellFormed.{wellFormed}
 use Rattle.line_report.specs.declared.LinePart.{LinePart}
 use Rattle.line_report.specs.declared.Report.{Report}
-use Rattle.line_report.specs.Text.{endText}
 use Rattle.line_report.specs.Output.{linesOf, linesLeave, ownReceiver, outputOf}
-use Rattle.line_report.specs.Report.{linePart, report, startReport, bytePrints, afterBytes, bytesPrint, longestLine, Work, work, ReportDone, reportDone, roomWanted, reportInput, longestEnd, endPrints, reportEnd}
+use Rattle.line_report.specs.Report.{linePart, report, startReport, bytePrints, afterBytes, bytesPrint, longestLine, Work, work, ReportDone, reportDone, roomWanted, reportInput, longestEnd, afterLast, endPrints, reportEnd}
 
 -- ---- a list of calls
 
@@ -152,13 +152,20 @@ longLine = linePart 11 (49 ∷ 48 ∷ 48 ∷ 49 ∷ 53 ∷ 48 ∷ 48 ∷ 70 ∷ 
 abbrev pub fullReceiver : Receiver
 fullReceiver = receiver (withErrors (errors 65535 255 1) (withCounters (counters 1000 (2 ^ 24 - 1)) (freshCore (ids 5 5)))) nothingHeld
 
--- `longestLine` is reached. `longestEnd` is a sum of two parts, and each is reached; no end has both, so none has 69 bytes. (That is not proved; the
--- one below has 66.) Proved in proofs/Longest.antt.
+-- `longestLine` and `longestEnd` are reached. Proved in proofs/Longest.antt.
 pub record LongestReached : Type 0 where
   -- by line 18446744073709551615
   pub line : length (bytePrints columnsOf (report ownReceiver (2 ^ 64 - 2) longLine) 10) ≡ longestLine
-  -- the counts, by the largest numbers of their types, which only a receiver that is not well formed has; it refuses the line
-  pub counts : longestLine + length (endText (2 ^ 16 - 1) (2 ^ 8 - 1) (2 ^ 32 - 1) (2 ^ 16 - 1)) ≡ longestEnd
-  -- the end of a well-formed receiver
+  -- and the end, by a well-formed receiver
   pub full-is-well-formed : wellFormed fullReceiver ≡ true
-  pub last-line : length (endPrints columnsOf (report fullReceiver (2 ^ 64 - 2) longLine)) ≡ 66
+  pub end : length (endPrints columnsOf (report fullReceiver (2 ^ 64 - 2) longLine)) ≡ longestEnd
+
+-- and no end is longer, of a receiver whose fields hold what their types can hold. Proved in proofs/EndLength.antt.
+pub record TypesHold (core : Core) : Type 0 where
+  pub single-16 : core .errors .single < 2 ^ 16
+  pub double-8 : core .errors .double < 2 ^ 8
+  pub event-32 : core .counters .event < 2 ^ 32
+  pub bunch-16 : core .counters .bunch < 2 ^ 16
+
+abbrev pub NoLongerEnd : Type 0
+NoLongerEnd = (now : Report) → TypesHold (afterLast columnsOf now .receiver .core) → length (endPrints columnsOf now) ≤ longestEnd

@@ -153,9 +153,10 @@ reportInput columns now input buffer =
 
 -- ---- the end of input
 
--- room that is always enough for the end: a last line, and 31 bytes for `end` with numbers of 5, 3, 10 and 5 digits; 69 in all
+-- the longest text of the end: the longest line, and 28 bytes for `end` with numbers of 5, 3, 8 and 4 digits, as a well-formed receiver has them; 66 in
+-- all. A receiver that is not well formed may have larger counts, and refuses the line.
 abbrev pub longestEnd : ℕ
-longestEnd = longestLine + 31
+longestEnd = longestLine + 28
 
 module _ (columns : Kind → List ℕ) where
   -- a last line that has a character but no line feed ends here

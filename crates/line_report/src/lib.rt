@@ -62,10 +62,10 @@ struct Ended {
     next: usize,
 }
 
-// The longest text of a line, and room that is always enough for the end.
+// The longest text of a line, and that of the end.
 pub const LONGEST_LINE: usize = 38;
 
-pub const LONGEST_END: usize = 69;
+pub const LONGEST_END: usize = 66;
 
 // A report at the beginning of its input.
 pub fn start_report() -> Report

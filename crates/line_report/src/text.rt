@@ -6,7 +6,7 @@ ghost use mathlib.Core.List.{[], _∷_};
 ghost use Prim.Native.Nat.{_+_, _≤_, _<_};
 ghost use lib.ListN.{length};
 ghost use Rattle.line_report.specs.Text.{decimal, printsDash, wordText, printsPlace, placeText, verdictText, refusalText, answerText, lineText, countsText, endText};
-ghost use Rattle.line_report.specs.Write.{TextAt};
+ghost use Rattle.line_report.specs.Write.{TextAt, RoomForEnd};
 use receiver::ClockAnswer;
 use receiver_state::Outputs;
 use stored_line::write_hex;
@@ -147,7 +147,7 @@ fn put_counts(single: u16, double: u8, event: u32, bunch: u16, at: usize, out: &
     put_field(bunch as u64, after_event, out)
 }
 
-// The line at the end. Its numbers have at most 5, 3, 10 and 5 digits.
+// The line at the end.
 pub(crate) fn put_end(
     single: u16,
     double: u8,
@@ -156,8 +156,8 @@ pub(crate) fn put_end(
     at: usize,
     out: &mut [u8],
 ) -> usize
-    requires { ⌜ at + 31 ≤ length (now out) ⌝ }
-    ensures { λ r. ⌜ (TextAt r at (endText single double event bunch) (now (out .entry)) (now (out .exit))) × (r ≤ at + 31) ⌝ }
+    requires { ⌜ RoomForEnd single double event bunch at (now out) ⌝ }
+    ensures { λ r. ⌜ (TextAt r at (endText single double event bunch) (now (out .entry)) (now (out .exit))) × (r ≤ length (now (out .exit))) ⌝ }
 {
     let after_e = put(b'e', at, out);
     let after_n = put(b'n', after_e, out);

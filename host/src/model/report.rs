@@ -15,9 +15,10 @@ use std::mem;
 const ID: u16 = 5;
 const I2C: u8 = 5;
 
-/// Room for the text of any line, and for it with an `end` line of any numbers after it.
+/// Room for the text of any line, and for the end: the longest line, and the longest `end` line of a
+/// well-formed receiver. One that is not well formed refuses the line, and takes less room.
 pub const LONGEST_LINE: usize = text::LONGEST;
-pub const LONGEST_END: usize = LONGEST_LINE + "end 65535 255 4294967295 65535\n".len();
+pub const LONGEST_END: usize = LONGEST_LINE + "end 65535 255 16777215 4095\n".len();
 
 /// The front of a line of which the end has not come. A count of 12 or more says that it has more
 /// characters than any frame's line, so that it is refused by 10, whatever follows; none is kept.

@@ -14,7 +14,7 @@ use ttcrx_host::ttcrx::report_start;
 const AMPLE: usize = 40_000;
 
 /// Lengths of buffers that take a line, near the least one and others.
-const LENGTHS: [usize; 9] = [38, 39, 40, 68, 69, 70, 100, 4_096, AMPLE];
+const LENGTHS: [usize; 9] = [38, 39, 40, 65, 66, 67, 100, 4_096, AMPLE];
 
 /// Reports the pieces, with buffers of these lengths in turn, and the end. Gives what the report
 /// kept before the end.

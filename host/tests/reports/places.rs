@@ -201,23 +201,43 @@ fn random_reports() {
     both.at_least(6_000 * 5);
 }
 
+/// Receivers with the largest counters: one that is well formed, and one that is not.
+fn full(bunch: u16, event: u32) -> Receiver {
+    let mut receiver = ttcrx::report_start().receiver;
+    receiver.core.errors.single_errors = u16::MAX;
+    receiver.core.errors.double_errors = u8::MAX;
+    receiver.core.counters = Counters { bunch, event };
+    receiver
+}
+
 /// The end after the longest line, with a buffer that is too small by one, and with one just large
-/// enough.
+/// enough. The third has 66 bytes.
 #[test]
 fn the_end_after_the_longest_line() {
-    let both = Both::of("the end with buffers of 68 and 69 bytes");
-    for (line, expected) in [
-        ("1001500F385", "18446744073709551615 10 1 001500F3 39\nend 1 0 0 42\n"),
-        ("1FFFFFFFFFF", "18446744073709551615 11 0 -\nend 0 1 0 42\n"),
+    let both = Both::of("the end with buffers of 65 and 66 bytes");
+    let own = ttcrx::report_start().receiver;
+    for (receiver, line, expected) in [
+        (own, "1001500F385", "18446744073709551615 10 1 001500F3 39\nend 1 0 0 42\n"),
+        (own, "1FFFFFFFFFF", "18446744073709551615 11 0 -\nend 0 1 0 42\n"),
+        (
+            full(1_000, (1 << 24) - 1),
+            "1001500F385",
+            "18446744073709551615 10 1 001500F3 39\nend 65535 255 16777215 1042\n",
+        ),
+        (
+            full(u16::MAX, u32::MAX),
+            "1001500F385",
+            "18446744073709551615 ! 2\nend 65535 255 4294967295 65535\n",
+        ),
     ] {
         let part = front(line.as_bytes());
-        let report = Report { lines: u64::MAX - 1, part, ..ttcrx::report_start() };
+        let report = Report { receiver, lines: u64::MAX - 1, part };
         let mut driver = Driver::of(&both, 0, report);
-        let small = driver.end(68);
-        both.same(line, (small.written, small.room_wanted), (0, 69));
-        let done = driver.end(69);
+        let small = driver.end(65);
+        both.same(line, (small.written, small.room_wanted), (0, 66));
+        let done = driver.end(66);
         both.same(line, (done.written, done.room_wanted), (expected.len(), 0));
         both.same(line, driver.text().as_str(), expected);
     }
-    both.at_least(2 * 11);
+    both.at_least(4 * 11);
 }

@@ -68,7 +68,7 @@ fn nothing_lent() {
         let report = random.pick(&[every_kind, any_report])(&mut random);
         let input = input(&mut random, 3);
         let nothing = untouched(report, 0);
-        for length in [0, 1, 37, 38, 68, 69, 100] {
+        for length in [0, 1, 37, 38, 65, 66, 100] {
             let answer = Driver::of(&both, call, report).input(&[], length);
             both.same(report, answer, nothing);
         }
@@ -117,7 +117,7 @@ fn naive(driver: &mut Driver, pieces: &[&[u8]], mut room: usize) {
 fn a_naive_loop() {
     let both = Both::of("inputs by loops that follow the room wanted");
     let mut random = Random::new(342);
-    for first_room in [0, 1, 37, 38, 39, 68, 69, 70, 100, 1_000] {
+    for first_room in [0, 1, 37, 38, 39, 65, 66, 67, 100, 1_000] {
         for seed in 0..50 {
             let input = input(&mut random, 30);
             let most = random.pick(&[1, 5, 20, 100, 1_000]);

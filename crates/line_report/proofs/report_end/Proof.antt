@@ -2,13 +2,12 @@
 use mathlib.Core.Path.{refl}
 use native.Mathlib.Omega.{arith}
 use borrow.Author.Tests.{lt-ltb}
-use Rattle.frame.specs.Columns.{columnsOf}
-use Rattle.line_report.proofs.Turn.{counts-room, written-below, all-ended}
+use Rattle.line_report.proofs.Turn.{counts-room, all-ended}
 use mathlib.Core.Path.{_≡_, refl, sym, ap, _∙_}
 use Prim.Native.Nat.{_+_, _≤_}
 use borrow.Author.Tests.{lt-ltb, le-ltb}
 use lib.ListN.{length}
-use Rattle.line_report.specs.Report.{longestEnd, endWork, endWanted, reportEnd}
+use Rattle.line_report.specs.Report.{longestEnd, endWork, endWanted}
 use borrow.Author.Needs.{needs}
 use Rattle.line_report.proofs.report_end.Statement.{statement}
 use Rattle.line_report.proofs.report_end.Tie as tie
@@ -24,7 +23,8 @@ put-end-requires : tie.Need-put-end-requires
 put-end-requires c κs =
     let last = c .before .before .before .before .before in
     let start = last .before .before .before .before in
-    counts-room columnsOf (start .args .report) (last .before .before .if1 .left) (last .end-last .ensures .1)
+    let ended = last .end-last .ensures in
+    counts-room (start .args .report) (last .end-last .result .report) (last .before .before .if1 .left) (ended .0) (ended .1)
 
 same-length : tie.Need-same-length
 same-length c = search needs
@@ -34,10 +34,8 @@ returns-2 c =
     let put = c .before .before .put-end .ensures in
     let last = c .before .before .before .before .before .before .before .before in
     let start = last .before .before .before .before in
-    let ended = last .end-last .ensures in (
-      all-ended columnsOf (start .args .report) (last .end-last .result .report) (last .before .before .if1 .left) (ended .0) (ended .1) (put .0) (put .1),
-      written-below columnsOf (start .args .report) (last .before .before .if1 .left) (ended .1) (put .1),
-    )
+    let ended = last .end-last .ensures in
+    all-ended (start .args .report) (last .end-last .result .report) (last .before .before .if1 .left) (ended .0) (ended .1) (put .0) (put .1)
 
 pub report-end-spec : {M : Type 1} → statement M
 report-end-spec =
