@@ -5,12 +5,12 @@
 // lent: below the public encoders and decoders, every function that needs columns takes them.
 ghost use mathlib.Core.Path.{_≡_};
 ghost use mathlib.Core.Bool.{cond};
-ghost use Prim.Native.Nat.{_-_};
+ghost use Prim.Native.Nat.{_-_, _%_, _^_};
 ghost use Rattle.hamming.specs.Code.{inUse, bySyndrome};
 ghost use Rattle.hamming.specs.Columns.{shortColumns, longColumns};
 ghost use Rattle.frame.specs.Numbers.{dataBits, frameBits, isFrame, wordBits, checkBitsOf};
 ghost use Rattle.frame.specs.Columns.{columnsFor};
-ghost use Rattle.frame.specs.Encode.{fieldsOf, encodeWord, encodeShort, encodeLong};
+ghost use Rattle.frame.specs.Encode.{wordOf, fieldsOf, encodeWord, encodeShort, encodeLong};
 ghost use Rattle.frame.specs.Place.{placeIn, places};
 ghost use Rattle.frame.specs.Decode.{fixedZero, judgedWord, judged, bareAnswer, answerTo, finishedAnswer, decodeFrame};
 ghost use Rattle.frame.specs.declared.Kind.the-variants.{Short, Long};
@@ -90,7 +90,7 @@ pub fn is_frame(kind: Kind, number: u64) -> bool
 }
 
 // The frame of a word, with its check bits and stop bit.
-fn encode_word(columns: &[u8], kind: Kind, word: u32) -> u64
+pub fn encode_word(columns: &[u8], kind: Kind, word: u32) -> u64
     ensures { λ r. ⌜ r ≡ encodeWord (inUse (now (columns .entry))) kind word ⌝ }
 {
     let check = check_number(columns, word) as u64;
@@ -111,6 +111,17 @@ pub fn encode_short(data: u8) -> Encoded
     }
 }
 
+// The word of a long frame with these fields. An address or E that is out of range is reduced.
+pub fn long_word(address: u16, e: u8, sub: u8, data: u8) -> u32
+    ensures { λ r. ⌜ r ≡ wordOf Long (record { address = address % 2 ^ 14; e = e % 2; sub = sub; «data» = «data» }) ⌝ }
+{
+    (address % 0x4000) as u32 * 0x4_0000
+        + (e % 2) as u32 * 0x2_0000
+        + 0x1_0000
+        + sub as u32 * 0x100
+        + data as u32
+}
+
 // The individually addressed frame of these fields.
 pub fn encode_long(address: u16, e: u8, sub: u8, data: u8) -> Encoded
     ensures { λ r. ⌜ r ≡ encodeLong longColumns address e sub «data» ⌝ }
@@ -128,11 +139,7 @@ pub fn encode_long(address: u16, e: u8, sub: u8, data: u8) -> Encoded
         };
     }
     let table = column_table();
-    let word = address as u32 * 0x4_0000
-        + e as u32 * 0x2_0000
-        + 0x1_0000
-        + sub as u32 * 0x100
-        + data as u32;
+    let word = long_word(address, e, sub, data);
     Encoded {
         refusal: 0,
         number: encode_word(&table, Kind::Long, word),
@@ -279,7 +286,7 @@ pub fn place_of(kind: Kind, wrong: WrongBit) -> u8
 }
 
 // An answer without flag, place and fields: they are all 0.
-fn bare_answer(refusal: u8, verdict: u8, word: u32) -> Answer
+pub fn bare_answer(refusal: u8, verdict: u8, word: u32) -> Answer
     ensures { λ r. ⌜ r ≡ bareAnswer refusal verdict word ⌝ }
 {
     Answer {
