@@ -1,0 +1,5 @@
+pub mod Check
+pub mod NumberSets
+pub mod Laws
+pub mod Frames
+pub mod Examples
