@@ -1,10 +1,10 @@
--- `whole_frame::receive_bit` meets its contract: it goes by what the bit leaves. Assumes nothing.
+-- `whole_frame::step_apart` meets its contract: it goes by what the bit leaves. Assumes nothing.
 use mathlib.Core.Path.{sym, ap, ap₂, _∙_}
 use Rattle.receiver.specs.Clock.{clockedAnswer}
 use Rattle.receiver.proofs.Unchecked.{unfinished-step, finished-step}
 use borrow.Author.Needs.{needs}
-use Rattle.whole_frame.proofs.receive_bit.Statement.{statement}
-use Rattle.whole_frame.proofs.receive_bit.Tie as tie
+use Rattle.whole_frame.proofs.step_apart.Statement.{statement}
+use Rattle.whole_frame.proofs.step_apart.Tie as tie
 
 take-bit-requires : tie.Need-take-bit-requires
 take-bit-requires c κs = search needs
@@ -41,7 +41,7 @@ returns c =
     let bit = c .before .before .before .before .before in
     let given = bit .before .before .before .args in
     c .answered .ensures ∙ ap (clockedAnswer _) (c .before .idle-clock .ensures)
-    ∙ sym (unfinished-step _ (given .receiver) 0 (given .bit) _ (sym (bit .take-bit .ensures) ∙ c .before .before .before .taken .given .1))
+    ∙ sym (unfinished-step _ (given .receiver) (given .trigger) (given .«data») _ (sym (bit .take-bit .ensures) ∙ c .before .before .before .taken .given .1))
 
 returns-2 : tie.Need-returns-2
 returns-2 c =
@@ -50,10 +50,10 @@ returns-2 c =
     c .answered2 .ensures
     ∙ ap₂ clockedAnswer (c .before .held-after .ensures)
     (rw (c .before .before .before .before .idle-clock2 .ensures, c .before .before .before .decode-finished .ensures) at (c .before .before .finish .ensures))
-    ∙ sym (finished-step _ (given .receiver) 0 (given .bit) _ _ (sym (bit .take-bit .ensures) ∙ c .before .before .before .before .before .before .taken2 .given .1))
+    ∙ sym (finished-step _ (given .receiver) (given .trigger) (given .«data») _ _ (sym (bit .take-bit .ensures) ∙ c .before .before .before .before .before .before .taken2 .given .1))
 
-pub receive-bit-spec : {M : Type 1} → statement M
-receive-bit-spec =
+pub step-apart-spec : {M : Type 1} → statement M
+step-apart-spec =
     tie.close
     (tie.spec
     take-bit-requires
