@@ -1,11 +1,12 @@
 // Document 02, Q-3: a block of clocks in one call, the record of each clock that has one, and the
 // records in a buffer that a block was run into (the second call).
 //
-// The state goes by value, as for a single clock, and a record does too. A block is only read, and is
-// lent by `&`; records go to the caller's own buffer, lent by `&mut`. The second call takes the buffer
+// The state goes by value, as for a single clock, and a record does too. A block and columns are only
+// read, and are lent by `&`; records go to the caller's own buffer, lent by `&mut`. The second call takes the buffer
 // by `&`, and what comes back is a part of it: nothing is copied, and no number can change.
 ghost use mathlib.Core.Path.{_≡_};
-ghost use Rattle.frame.specs.Columns.{columnsOf};
+ghost use Rattle.hamming.specs.Code.{inUse};
+ghost use Rattle.frame.specs.Columns.{columnsFor, columnsOf};
 ghost use Rattle.trace.specs.Record.{traceRecord};
 ghost use Rattle.trace.specs.Filled.{filledLength, filledPart};
 ghost use Rattle.trace.specs.Block.{blockDone, blockAnswer, runBlock};
@@ -101,10 +102,16 @@ fn refuse_block(refusal: u8, receiver: Receiver) -> BlockAnswer
     }
 }
 
-// The clocks of a whole block, with a record of each that has a trigger or finishes a frame. Block and
-// state are checked once, before the first clock.
-pub fn run_block(receiver: Receiver, block: &[u8], buffer: &mut [u32]) -> BlockAnswer
-    ensures { λ r. ⌜ blockDone r (now (buffer .exit)) ≡ runBlock columnsOf receiver (now (block .entry)) (now (buffer .entry)) ⌝ }
+// The clocks of a whole block over these columns, with a record of each that has a trigger or finishes
+// a frame. Block and state are checked once, before the first clock.
+pub fn run_block_over(
+    short: &[u8],
+    long: &[u8],
+    receiver: Receiver,
+    block: &[u8],
+    buffer: &mut [u32],
+) -> BlockAnswer
+    ensures { λ r. ⌜ blockDone r (now (buffer .exit)) ≡ runBlock (columnsFor (inUse (now (short .entry))) (inUse (now (long .entry)))) receiver (now (block .entry)) (now (buffer .entry)) ⌝ }
 {
     if !well_formed(receiver) {
         return refuse_block(2, receiver);
@@ -118,13 +125,20 @@ pub fn run_block(receiver: Receiver, block: &[u8], buffer: &mut [u32]) -> BlockA
     if !no_byte_over_3(block) {
         return refuse_block(1, receiver);
     }
-    let short = column_table();
-    let long = column_table();
-    let run = run_clocks(&short[..8], &long, receiver, block, buffer);
+    let run = run_clocks(short, long, receiver, block, buffer);
     let last = run.receiver;
     BlockAnswer {
         refusal: 0,
         receiver: last,
         records: run.records,
     }
+}
+
+// The same over document 01's table.
+pub fn run_block(receiver: Receiver, block: &[u8], buffer: &mut [u32]) -> BlockAnswer
+    ensures { λ r. ⌜ blockDone r (now (buffer .exit)) ≡ runBlock columnsOf receiver (now (block .entry)) (now (buffer .entry)) ⌝ }
+{
+    let short = column_table();
+    let long = column_table();
+    run_block_over(&short[..8], &long, receiver, block, buffer)
 }

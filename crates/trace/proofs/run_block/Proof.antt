@@ -1,62 +1,11 @@
--- `trace::run_block` meets its contract: at each exit the tests that led there pick the same row of the definition. Assumes nothing.
-use mathlib.Core.Path.{_≡_, sym, ap}
-use mathlib.Core.List.{List}
-use Prim.Native.Nat.{ℕ, _*_, _≤_}
-use native.Mathlib.Omega.{arith}
+-- `trace::run_block` meets its contract: the columns lent are document 01's table. Assumes nothing.
+
+use mathlib.Core.Path.{sym}
 use lib.Dec.{lit≤}
-use lib.ListN.{length}
 use lib.Seq.{length-take-le}
-use Rattle.laws.proofs.Rules.{granted, picks}
-use Rattle.frame.specs.Columns.{columnsOf}
-use Rattle.receiver_state.proofs.WellFormed.{receiver-facts}
-use Rattle.trace.specs.declared.BlockAnswer.{BlockAnswer}
-use Rattle.trace.specs.Record.{recordNumbers}
-use Rattle.trace.specs.Block.{blockDone, runBlock}
-use Rattle.trace.proofs.Run.{block-leaves}
 use borrow.Author.Needs.{needs}
 use Rattle.trace.proofs.run_block.Statement.{statement}
 use Rattle.trace.proofs.run_block.Tie as tie
-
--- a refusal writes nothing
-refused : (a b : BlockAnswer) (buffer : List ℕ) → a ≡ b → blockDone a buffer ≡ blockDone b buffer
-refused a b buffer e = ap (λ (x : BlockAnswer). blockDone x buffer) e
-
-well-formed-requires : tie.Need-well-formed-requires
-well-formed-requires c κs = search needs
-
-refuse-block-requires : tie.Need-refuse-block-requires
-refuse-block-requires c κs = search needs
-
-returns : tie.Need-returns
-unfolding runBlock
-returns c = search (refused, picks)
-
-refuse-block-requires-2 : tie.Need-refuse-block-requires-2
-refuse-block-requires-2 c κs = search needs
-
-returns-2 : tie.Need-returns-2
-unfolding runBlock
-returns-2 c = search (refused, picks)
-
-mul-if3 : tie.Need-mul-if3
-mul-if3 c = search needs
-
-refuse-block-requires-3 : tie.Need-refuse-block-requires-3
-refuse-block-requires-3 c κs = search needs
-
-returns-3 : tie.Need-returns-3
-unfolding runBlock
-returns-3 c = search (refused, picks)
-
-no-byte-over-3-requires : tie.Need-no-byte-over-3-requires
-no-byte-over-3-requires c κs = search needs
-
-refuse-block-requires-4 : tie.Need-refuse-block-requires-4
-refuse-block-requires-4 c κs = search needs
-
-returns-4 : tie.Need-returns-4
-unfolding runBlock
-returns-4 c = search (refused, picks)
 
 column-table-requires : tie.Need-column-table-requires
 column-table-requires c κs = search needs
@@ -67,57 +16,30 @@ column-table-requires-2 c κs = search needs
 array-share-prefix-short : tie.Need-array-share-prefix-short
 array-share-prefix-short c = search needs
 
-slice-aggregate-run-clocks : tie.Need-slice-aggregate-run-clocks
-slice-aggregate-run-clocks c = sym (length-take-le 8 (c .before .before .column-table .result) (rw (c .before .before .column-table .ensures) (lit≤ tt)))
+slice-aggregate-run-block-over : tie.Need-slice-aggregate-run-block-over
+slice-aggregate-run-block-over c = sym (length-take-le 8 (c .before .before .column-table .result) (rw (c .before .before .column-table .ensures) (lit≤ tt)))
 
-slice-aggregate-run-clocks-2 : tie.Need-slice-aggregate-run-clocks-2
-slice-aggregate-run-clocks-2 c = search needs
+slice-aggregate-run-block-over-2 : tie.Need-slice-aggregate-run-block-over-2
+slice-aggregate-run-block-over-2 c = search needs
 
-run-clocks-requires : tie.Need-run-clocks-requires
-run-clocks-requires c κs = (
-  record {
-    well-formed = receiver-facts _ (search granted);
-    within = omega arith;
-    few = omega arith;
-    at-most = search needs;
-  },
-  search needs,
-)
+run-block-over-requires : tie.Need-run-block-over-requires
+run-block-over-requires c κs = search needs
 
 same-length : tie.Need-same-length
 same-length c = search needs
 
-returns-5 : tie.Need-returns-5
-unfolding runBlock
-returns-5 c =
-    let done = c .before .before .before in
-    let long = done .before .before .before .before in
-    let given = c .before .before .before .before .before .before .before .before .before .before .before .before .before .before .before .before .before .args in
-    let room : recordNumbers * length (given .block .now) ≤ length (given .buffer .now) = search needs in
-    let ran = rw (long .column-table2 .ensures, long .before .column-table .ensures) at (done .run-clocks .ensures) in
-    let leaves = block-leaves columnsOf (given .receiver) (given .block .now) (given .buffer .now) _ room ran in
-    search (leaves, picks)
+returns : tie.Need-returns
+returns c = rw (c .before .before .before .before .before .before .column-table2 .ensures, c .before .before .before .before .before .before .before .column-table .ensures) at (c .before .before .run-block-over .ensures)
 
 pub run-block-spec : {M : Type 1} → statement M
 run-block-spec =
     tie.close
     (tie.spec
-    well-formed-requires
-    refuse-block-requires
-    returns
-    refuse-block-requires-2
-    returns-2
-    mul-if3
-    refuse-block-requires-3
-    returns-3
-    no-byte-over-3-requires
-    refuse-block-requires-4
-    returns-4
     column-table-requires
     column-table-requires-2
     array-share-prefix-short
-    slice-aggregate-run-clocks
-    slice-aggregate-run-clocks-2
-    run-clocks-requires
+    slice-aggregate-run-block-over
+    slice-aggregate-run-block-over-2
+    run-block-over-requires
     same-length
-    returns-5)
+    returns)
