@@ -26,10 +26,10 @@ use Rattle.line_report.specs.declared.Report.{Report}
 use Rattle.line_report.specs.Text.{decimalUpTo, decimal, wordDigits, printsDash, wordText, printsPlace, placeText, verdictText, answerText, lineText, countsText, endText, coreEndText}
 use Rattle.line_report.specs.Output.{afterLine, nextLine, linePrints}
 use Rattle.line_report.specs.Report.{readPart, lineEnded, longestEnd, afterLast, lastPrints}
-use Rattle.line_report.specs.Cuts.{TypesHold, NoLongerEnd}
+use Rattle.line_report.specs.EndLength.{TypesHold, NoLongerEnd}
 use Rattle.line_report.proofs.Decimal.{few-digits, twenty-digits}
 use Rattle.line_report.proofs.Bounds.{part-small, refusal-length, line-length}
-use Rattle.line_report.proofs.EachLine.{line-keeps}
+use Rattle.line_report.proofs.Keep.{line-keeps}
 
 -- ---- the counts
 

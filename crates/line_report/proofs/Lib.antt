@@ -4,10 +4,7 @@ pub mod Word
 pub mod LineSoFar
 pub mod Bounds
 mod Ones
-pub mod EachLine
+pub mod Keep
 pub mod EndLength
 pub mod Work
 pub mod Turn
-pub mod Cuts
-pub mod Longest
-pub mod Example

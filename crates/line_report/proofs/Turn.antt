@@ -20,7 +20,7 @@ use Rattle.line_report.specs.declared.Reported.{Reported}
 use Rattle.line_report.specs.Text.{coreEndText}
 use Rattle.line_report.specs.Write.{TextAt, RoomForEnd}
 use Rattle.line_report.specs.Report.{report, withCharacters, readPart, lineEnded, lineEndPrints, untilFeed, longestLine, Work, work, workOn, reportDone, doneBy, roomWanted, reportInput, longestEnd, afterLast, lastPrints, endPrints, endWork, endWanted, reportEnd}
-use Rattle.line_report.specs.Cuts.{TypesHold}
+use Rattle.line_report.specs.EndLength.{TypesHold}
 use Rattle.line_report.specs.Turn.{placed, finishedFrom, Turned}
 use Rattle.laws.proofs.Sets.{sets-append, sets-front}
 use Rattle.line_report.proofs.Write.{then-text, kept-length}

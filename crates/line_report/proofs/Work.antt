@@ -2,7 +2,7 @@
 use mathlib.Core.Path.{_≡_, refl, sym, ap, ap₂, _∙_}
 use mathlib.Core.Bool.{Bool, true, false}
 use mathlib.Core.List.{List, [], _∷_, _++_, append-assoc}
-use Prim.Native.Nat.{ℕ, zero, suc, _+_, _-_, _≤_, _<_}
+use Prim.Native.Nat.{ℕ, zero, suc, _+_, _-_, _*_, _≤_, _<_}
 use native.Mathlib.Nat.{sub-zero, zero-add, suc-add}
 use native.Mathlib.Omega.{arith}
 use borrow.Author.Tests.{lt-ltb, le-ltb, ltb-false}
@@ -138,3 +138,13 @@ module _ (columns : Kind → List ℕ) where
       (λ t.
       let enough : longestLine ≤ room = ltb-false room longestLine t in
       omega (arith, length-append text (workOn columns (room - length text) (afterByte columns now byte) bytes .text), byte-fits now byte))
+
+  -- room for a line's text for each byte is enough for all
+  pub room-for-all : (room : ℕ) (now : Report) (input : List ℕ) → longestLine * length input ≤ room → workOn columns room now input .used ≡ length input
+  unfolding workOn
+  room-for-all room now [] h = refl
+  room-for-all room now (byte ∷ bytes) h =
+      let text = bytePrints columns now byte in
+      let enough : longestLine ≤ room = omega arith in
+      rw (le-ltb room longestLine enough)
+      (ap suc (room-for-all (room - length text) (afterByte columns now byte) bytes (omega (arith, byte-fits now byte))))

@@ -4,7 +4,7 @@ use Prim.Native.Nat.{_*_, _-_, _≤_}
 use native.Mathlib.Omega.{arith}
 use lib.ListN.{length, take, drop}
 use Rattle.line_report.specs.Report.{ReportDone, longestLine}
-use Rattle.line_report.proofs.Cuts.{report-cuts}
+use Rattle.line_report.proofs.Work.{room-for-all}
 use Rattle.ttclines.proofs.Fits.{tail-length}
 use lib.ListN.{length}
 use Rattle.frame.specs.Columns.{columnsOf}
@@ -35,7 +35,7 @@ returns c =
     let tail = take (length (start .args .out .now) - start .args .from) (drop (start .args .from) (start .args .out .now)) in
     let size = tail-length (start .args .out .now) (start .args .from) in
     let room : longestLine * length (start .args .piece .now) ≤ length tail = omega (arith, start .pre) in (
-      ap (λ (f : ReportDone). f .answer .used) (told .0) ∙ report-cuts .enough-room (start .args .report) (start .args .piece .now) tail room,
+      ap (λ (f : ReportDone). f .answer .used) (told .0) ∙ room-for-all columnsOf (length tail) (start .args .report) (start .args .piece .now) room,
       omega (arith, told .1 .1, start .pre, same-length c),
     )
 

@@ -40,9 +40,9 @@ use Rattle.stored_line.specs.declared.StoredLine.{StoredLine}
 use Rattle.stored_line.specs.declared.StoredLine.the-variants.{Frame, Refused}
 use Rattle.stored_line.specs.Digits.{digitValue, allDigits, hexNumber, hexAnswer, digitCharacter, hexDigits}
 use Rattle.stored_line.specs.Read.{readLine}
 use Rattle.line_report.specs.Text.{decimalUpTo, decimal, kindDigits, wordDigits, printsDash, wordText, printsPlace, placeText, verdictText, refusalText, answerText, lineText, countsText, endText}
 use Rattle.line_report.specs.Output.{linesAfter, feedLine, onesSent, afterLine, nextLine, linesPrint, outputOf}
-use Rattle.line_report.specs.Example.{endedLines, line1, line2, line3, line4, line5, line6, line7, line8, exampleLines, text1, text2, text3, text4, text5, text6, text7, text8, text9, ExampleOutput}
+use Rattle.report_laws.specs.Example.{endedLines, line1, line2, line3, line4, line5, line6, line7, line8, exampleLines, text1, text2, text3, text4, text5, text6, text7, text8, text9, ExampleOutput}
 
 -- ---- the input, cut into lines
 

@@ -22,8 +22,9 @@ use Rattle.whole_frame.proofs.WholeFrameLaw.{whole-frame-theorem}
 use Rattle.stored_line.specs.declared.StoredLine.{StoredLine}
 use Rattle.stored_line.specs.declared.StoredLine.the-variants.{Frame, Refused}
 use Rattle.stored_line.specs.Read.{readLine}
 use Rattle.line_report.specs.Output.{onesSent, afterLine, linesLeave}
-use Rattle.line_report.specs.EachLine.{EachLineTheorem, ReportWaits}
+use Rattle.line_report.proofs.Keep.{line-keeps}
+use Rattle.report_laws.specs.EachLine.{EachLineTheorem, ReportWaits}
 
 abbrev Ready : Receiver → Type 0
 Ready r = (wellFormed r ≡ true) × Waits r
@@ -41,18 +42,7 @@ module _ (columns : Kind → List ℕ) (law : WholeFrameLaw columns) where
       (λ e. law .waits-again r kind number w waits e n)
       (λ e. subst (λ (a : ClockAnswer). Waits (a .receiver)) (sym (no-frame r kind number w e)) waits)
 
-  -- what a line leaves, and the ones that may follow it: a well-formed receiver
-  pub line-keeps : (r : Receiver) (line : StoredLine) → wellFormed r ≡ true → wellFormed (afterLine columns r line) ≡ true
-  unfolding onesSent
-  line-keeps r (Refused refusal) w = w
-  line-keeps r (Frame kind number) w =
-      by-test (eqb (receiveAnswer columns r kind number .outputs .verdict) 7)
-      (λ t.
-      let left = law .wants-after-7 r kind number (eqb-true _ 7 t) in
-      rw t (law .ones-after-7 (receiveAnswer columns r kind number .receiver) (left .0) (left .1) .1))
-      (λ t. rw t (law .stays-well-formed r kind number w))
-
-  -- that waits, if it did before
+  -- what a line leaves, and the ones that may follow it: a receiver that waits, if it did before
   line-waits : (r : Receiver) (line : StoredLine) → Ready r → Waits (afterLine columns r line)
   unfolding onesSent
   line-waits r (Refused refusal) ready = ready .1
@@ -65,7 +55,7 @@ module _ (columns : Kind → List ℕ) (law : WholeFrameLaw columns) where
       (λ t. rw t (frame-waits r kind number ready (eqb-false _ 7 t)))
 
   after-line : (r : Receiver) (line : StoredLine) → Ready r → Ready (afterLine columns r line)
-  after-line r line ready = (line-keeps r line (ready .0), line-waits r line ready)
+  after-line r line ready = (line-keeps columns law r line (ready .0), line-waits r line ready)
 
   lines-wait : (lines : List (List ℕ)) (r : Receiver) → Ready r → Ready (linesLeave columns r lines)
   unfolding linesLeave

@@ -20,10 +20,10 @@ use Rattle.receiver.specs.Clock.{stepAnswer, clockAnswer}
 use Rattle.whole_frame.specs.WholeFrame.{clocksAnswer, receiveAnswer}
 use Rattle.stored_line.specs.Digits.{digitValue, allDigits, hexNumber, hexAnswer, digitCharacter, hexDigits}
 use Rattle.stored_line.specs.Read.{readLine}
 use Rattle.line_report.specs.Text.{decimalUpTo, decimal, printsDash, wordText, printsPlace, placeText, verdictText, refusalText, answerText, lineText, countsText, endText}
 use Rattle.line_report.specs.Output.{onesSent}
 use Rattle.line_report.specs.Report.{readPart, bytePrints, afterLast, lastPrints}
-use Rattle.line_report.specs.Cuts.{LongestReached}
+use Rattle.report_laws.specs.Cuts.{LongestReached}
 
 pub longest-reached : LongestReached
 unfolding hasSetting every ones trailingZeros lowestOne checkNumber syndrome firstFrom bySyndrome decodeWord isFrame judged idsOk settingsOk countersOk sequenceOk coreOk bitsOk wantedOk heldOk wellFormed upTo doubleUp clearedBy withoutSetting stored foreign longRow tableRow countErrors finished finishedAnswer frameOrPart betweenFrames takeBit heldAfter countClock continued started busStep idleClock stepAnswer clockAnswer bitsOf clocksAnswer receiveAnswer digitValue allDigits hexNumber hexAnswer digitCharacter hexDigits readLine decimalUpTo decimal oneOf printsDash wordText printsPlace placeText verdictText refusalText answerText lineText countsText endText readPart bytePrints afterLast lastPrints onesSent

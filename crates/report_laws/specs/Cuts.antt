@@ -8,14 +8,13 @@ use mathlib.Core.List.{List, [], _∷_, _++_}
 use lib.ListN.{length, take, drop}
 use Rattle.frame.specs.declared.Kind.{Kind}
 use Rattle.frame.specs.Columns.{columnsOf}
-use Rattle.receiver_state.specs.declared.Core.{Core}
 use Rattle.receiver_state.specs.declared.Receiver.{Receiver}
 use Rattle.receiver_state.specs.State.{ids, errors, counters, receiver, withErrors, withCounters, nothingHeld, freshCore}
 use Rattle.receiver_state.specs.WellFormed.{wellFormed}
 use Rattle.line_report.specs.declared.LinePart.{LinePart}
 use Rattle.line_report.specs.declared.Report.{Report}
 use Rattle.line_report.specs.Output.{linesOf, linesLeave, ownReceiver, outputOf}
-use Rattle.line_report.specs.Report.{linePart, report, startReport, bytePrints, afterBytes, bytesPrint, longestLine, Work, work, ReportDone, reportDone, roomWanted, reportInput, longestEnd, afterLast, endPrints, reportEnd}
+use Rattle.line_report.specs.Report.{linePart, report, startReport, bytePrints, afterBytes, bytesPrint, longestLine, Work, work, ReportDone, reportDone, roomWanted, reportInput, longestEnd, endPrints, reportEnd}
 
 -- ---- a list of calls
 
@@ -85,6 +84,16 @@ module _ (columns : Kind → List ℕ) where
       1 ≤ done .«room_wanted» → done .«room_wanted» ≤ length buffer₁
       → 1 ≤ reportInput columns (done .report) (drop (done .used) input) buffer₁ .answer .used
 
+-- ---- all that is written
+
+module _ (columns : Kind → List ℕ) where
+  -- from the beginning: when the input is used up and the end has room, the bytes written in all are those of the whole input
+  abbrev pub WholeOutput : Type 0
+  WholeOutput =
+      (input : List ℕ) (offers : List Offer) (buffer : List ℕ) → let all = reportAll columns startReport input offers in
+      all .used ≡ length input → longestEnd ≤ length buffer
+      → all .text ++ writtenBy (reportEnd columns (all .report) buffer) ≡ outputOf columns input
+
 -- ---- the statement
 
 pub record Cuts (columns : Kind → List ℕ) : Type 0 where
@@ -119,11 +128,8 @@ pub record Cuts (columns : Kind → List ℕ) : Type 0 where
       → reportAll columns now input offers .used ≡ length input
   pub pieces-used-up : (now : Report) (pieces : List Piece) → RoomForAll pieces
       → reportAll columns now (inputOf pieces) (offersOf pieces) .used ≡ length (inputOf pieces)
-  -- from the beginning: when the input is used up and the end has room, the bytes written in all are those of the whole input, and the receiver is
-  -- the one that its lines leave
-  pub whole-output : (input : List ℕ) (offers : List Offer) (buffer : List ℕ) → let all = reportAll columns startReport input offers in
-      all .used ≡ length input → longestEnd ≤ length buffer
-      → all .text ++ writtenBy (reportEnd columns (all .report) buffer) ≡ outputOf columns input
+  -- all that is written, from the beginning: see above; and the receiver is then the one that the lines of the input leave
+  pub whole-output : WholeOutput columns
   pub whole-state : (input : List ℕ) (offers : List Offer) (buffer : List ℕ) → let all = reportAll columns startReport input offers in
       all .used ≡ length input → longestEnd ≤ length buffer
       → reportEnd columns (all .report) buffer .answer .report .receiver ≡ linesLeave columns ownReceiver (linesOf input)
@@ -152,20 +158,11 @@ longLine = linePart 11 (49 ∷ 48 ∷ 48 ∷ 49 ∷ 53 ∷ 48 ∷ 48 ∷ 70 ∷ 
 abbrev pub fullReceiver : Receiver
 fullReceiver = receiver (withErrors (errors 65535 255 1) (withCounters (counters 1000 (2 ^ 24 - 1)) (freshCore (ids 5 5)))) nothingHeld
 
--- `longestLine` and `longestEnd` are reached. Proved in proofs/Longest.antt.
+-- `longestLine` and `longestEnd` are reached. No line's text is longer (`no-longer`), and no end: `NoLongerEnd` of the crate `line_report`. Proved in
+-- proofs/Longest.antt.
 pub record LongestReached : Type 0 where
   -- by line 18446744073709551615
   pub line : length (bytePrints columnsOf (report ownReceiver (2 ^ 64 - 2) longLine) 10) ≡ longestLine
   -- and the end, by a well-formed receiver
   pub full-is-well-formed : wellFormed fullReceiver ≡ true
   pub end : length (endPrints columnsOf (report fullReceiver (2 ^ 64 - 2) longLine)) ≡ longestEnd
-
--- and no end is longer, of a receiver whose fields hold what their types can hold. Proved in proofs/EndLength.antt.
-pub record TypesHold (core : Core) : Type 0 where
-  pub single-16 : core .errors .single < 2 ^ 16
-  pub double-8 : core .errors .double < 2 ^ 8
-  pub event-32 : core .counters .event < 2 ^ 32
-  pub bunch-16 : core .counters .bunch < 2 ^ 16
-
-abbrev pub NoLongerEnd : Type 0
-NoLongerEnd = (now : Report) → TypesHold (afterLast columnsOf now .receiver .core) → length (endPrints columnsOf now) ≤ longestEnd

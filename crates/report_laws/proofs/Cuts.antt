@@ -15,16 +15,16 @@ use Rattle.frame.specs.declared.Kind.{Kind}
 use Rattle.receiver_state.specs.declared.Receiver.{Receiver}
 use Rattle.stored_line.specs.declared.StoredLine.{StoredLine}
 use Rattle.stored_line.specs.Read.{readLine}
 use Rattle.line_report.specs.declared.LinePart.{LinePart}
 use Rattle.line_report.specs.declared.Report.{Report}
 use Rattle.line_report.specs.Text.{coreEndText}
 use Rattle.line_report.specs.Output.{lastLine, linesAfter, afterLine, nextLine, linePrints, linesPrint, linesLeave, outputOf}
 use Rattle.line_report.specs.Report.{noCharacters, emptyPart, withCharacter, readPart, report, startReport, lineEnded, lineEndPrints, afterByte, bytePrints, afterBytes, bytesPrint, longestLine, Work, work, behind, workOn, reportDone, doneBy, roomWanted, reportInput, longestEnd, afterLast, lastPrints, endPrints, endWork, endWanted, reportEnd}
-use Rattle.line_report.specs.Cuts.{Offer, writtenBy, offered, reportAll, GoodOffers, Piece, inputOf, offersOf, RoomForAll, WantedNone, WantedLine, WantedHelps, CutsTheorem, ReportCuts, LongestReached}
+use Rattle.report_laws.specs.Cuts.{Offer, writtenBy, offered, reportAll, GoodOffers, Piece, inputOf, offersOf, RoomForAll, WantedNone, WantedLine, WantedHelps, WholeOutput, CutsTheorem, ReportCuts}
 use Rattle.frame.specs.Columns.{columnsOf}
 use Rattle.line_report.proofs.LineSoFar.{Kept, Dropped, Holds, none-yet, holds-one, holds-read}
-use Rattle.line_report.proofs.Work.{no-room, byte-fits}
+use Rattle.line_report.proofs.Work.{no-room, byte-fits, room-for-all}
 use Rattle.line_report.proofs.Turn.{none-wanted, line-wanted}
 
 module _ (columns : Kind → List ℕ) where
   -- ---- bytes one behind the other
@@ -88,15 +88,6 @@ module _ (columns : Kind → List ℕ) where
       (λ t.
       let large : longestLine ≤ room = ltb-false room longestLine t in
       ⊎-elim (λ all. inl (ap suc all)) (λ full. inr (omega (arith, length-append text (rest .text), byte-fits columns now byte))) next)
-
-  room-for-all : (room : ℕ) (now : Report) (input : List ℕ) → longestLine * length input ≤ room → workOn columns room now input .used ≡ length input
-  unfolding workOn
-  room-for-all room now [] h = refl
-  room-for-all room now (byte ∷ bytes) h =
-      let text = bytePrints columns now byte in
-      let enough : longestLine ≤ room = omega arith in
-      rw (le-ltb room longestLine enough)
-      (ap suc (room-for-all (room - length text) (afterByte columns now byte) bytes (omega (arith, byte-fits columns now byte))))
 
   written-is : (wanted : ℕ) (w : Work) (buffer : List ℕ) → writtenBy (doneBy wanted w buffer) ≡ w .text
   written-is wanted w buffer = take-append-seam (w .text) (drop (length (w .text)) buffer)
@@ -253,20 +244,24 @@ module _ (columns : Kind → List ℕ) where
   unfolding endWork
   end-is now buffer room = rw (le-ltb (length buffer) longestEnd room) refl
 
-  whole : (input : List ℕ) (offers : List Offer) (buffer : List ℕ) → let all = reportAll columns startReport input offers in
+  -- from a report whose line has no character yet, all that is written is what the lines print
+  whole : (now : Report) → Holds (now .part) [] → (input : List ℕ) (offers : List Offer) (buffer : List ℕ) → let all = reportAll columns now input offers in
       all .used ≡ length input → longestEnd ≤ length buffer
-      → all .text ++ writtenBy (reportEnd columns (all .report) buffer) ≡ outputOf columns input
-  unfolding outputOf
-  whole input offers buffer u room =
-      let all = reportAll columns startReport input offers in
-      let d = calls-done startReport input offers in
+      → all .text ++ writtenBy (reportEnd columns (all .report) buffer) ≡ linesPrint columns (now .receiver) (now .lines) (linesAfter [] input)
+  whole now none input offers buffer u room =
+      let all = reportAll columns now input offers in
+      let d = calls-done now input offers in
       let covers : length input ≤ all .used = omega arith in
       let front : take (all .used) input ≡ input = take-all _ _ covers in
-      let reported : all .report ≡ afterBytes columns startReport input = d .report-is ∙ ap (afterBytes columns startReport) front in
+      let reported : all .report ≡ afterBytes columns now input = d .report-is ∙ ap (afterBytes columns now) front in
       let end = end-is (all .report) buffer room in
-      ap₂ (λ (a b : List ℕ). a ++ b) (d .text-is ∙ ap (bytesPrint columns startReport) front)
+      ap₂ (λ (a b : List ℕ). a ++ b) (d .text-is ∙ ap (bytesPrint columns now) front)
       (written-is (endWanted (length buffer)) (endWork columns (length buffer) (all .report)) buffer ∙ ap (λ (w : Work). w .text) end ∙ ap (endPrints columns) reported)
-      ∙ by-lines input startReport [] (none-yet noCharacters refl)
+      ∙ by-lines input now [] none
+
+  whole-output : WholeOutput columns
+  unfolding outputOf
+  whole-output input offers buffer u room = whole _ (none-yet noCharacters refl) input offers buffer u room
 
   -- ---- the receiver, byte for byte and line by line
 
@@ -374,7 +369,7 @@ module _ (columns : Kind → List ℕ) where
       → offered columns now (piece .bytes ++ rest) (record { count = length (piece .bytes); buffer = piece .buffer }) .answer .used ≡ length (piece .bytes)
   piece-used now piece rest h =
       ap (λ (bytes : List ℕ). workOn columns (length (piece .buffer)) now bytes .used) (take-append-seam (piece .bytes) rest)
-      ∙ room-for-all (length (piece .buffer)) now (piece .bytes) h
+      ∙ room-for-all columns (length (piece .buffer)) now (piece .bytes) h
 
   pieces-used : (now : Report) (pieces : List Piece) → RoomForAll pieces
       → reportAll columns now (inputOf pieces) (offersOf pieces) .used ≡ length (inputOf pieces)
@@ -407,10 +402,10 @@ cuts-theorem columns =
       end-done = λ now buffer h. end-not-wanted columns buffer h;
       used-up = calls-use-all columns;
       pieces-used-up = pieces-used columns;
-      whole-output = whole columns;
+      whole-output = whole-output columns;
       whole-state = left columns;
-      pieces-output = λ pieces buffer rooms room. whole columns (inputOf pieces) (offersOf pieces) buffer (pieces-used columns startReport pieces rooms) room;
-      offers-output = λ input offers buffer good many room. whole columns input offers buffer (calls-use-all columns startReport input offers good many) room;
+      pieces-output = λ pieces buffer rooms room. whole-output columns (inputOf pieces) (offersOf pieces) buffer (pieces-used columns startReport pieces rooms) room;
+      offers-output = λ input offers buffer good many room. whole-output columns input offers buffer (calls-use-all columns startReport input offers good many) room;
     }
 
 pub report-cuts : ReportCuts

@@ -1,0 +1,4 @@
+pub mod EachLine
+pub mod Cuts
+pub mod Longest
+pub mod Example

@@ -1,0 +1,3 @@
+pub mod EachLine
+pub mod Cuts
+pub mod Example
