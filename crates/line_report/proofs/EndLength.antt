@@ -94,7 +94,7 @@ refused-line r lines (Refused refusal) w s = line-of (nextLine lines) 0 (refused
 
 pub no-longer-end : NoLongerEnd
 unfolding afterLast lastPrints
-no-longer-end now t = by-count (eqb (now .part .count) 0) t
+no-longer-end now t = let fits = by-count (eqb (now .part .count) 0) t in omega arith
   where
     line : StoredLine
     line = readPart (now .part)

@@ -4,8 +4,7 @@ use mathlib.Core.Bool.{true}
 use mathlib.Core.List.{List}
 use Prim.Native.Nat.{ℕ}
 use borrow.Author.Tests.{eqb-true}
-use lib.Dec.{eqb}
-use Rattle.laws.proofs.Rules.{by-test}
+use Rattle.laws.proofs.Rules.{picked-by}
 use Rattle.frame.specs.declared.Kind.{Kind}
 use Rattle.receiver_state.specs.declared.Receiver.{Receiver}
 use Rattle.receiver_state.specs.WellFormed.{wellFormed}
@@ -19,8 +18,8 @@ pub line-keeps : (columns : Kind → List ℕ) (law : WholeFrameLaw columns) (r 
 unfolding onesSent
 line-keeps columns law r (Refused refusal) w = w
 line-keeps columns law r (Frame kind number) w =
-    by-test (eqb (receiveAnswer columns r kind number .outputs .verdict) 7)
+    picked-by (λ (after : Receiver). wellFormed after ≡ true) _
     (λ t.
     let left = law .wants-after-7 r kind number (eqb-true _ 7 t) in
-    rw t (law .ones-after-7 (receiveAnswer columns r kind number .receiver) (left .0) (left .1) .1))
-    (λ t. rw t (law .stays-well-formed r kind number w))
+    law .ones-after-7 (receiveAnswer columns r kind number .receiver) (left .0) (left .1) .1)
+    (λ t. law .stays-well-formed r kind number w)
