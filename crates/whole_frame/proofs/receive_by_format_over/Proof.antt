@@ -35,7 +35,7 @@ receive-frame-over-requires : tie.Need-receive-frame-over-requires
 receive-frame-over-requires c κs = search needs
 
 returns-3 : tie.Need-returns-3
-returns-3 c = 
+returns-3 c =
     let given = c .before .before .before .before .before .args in
     let columns = columnsFor (inUse (given .short .now)) (inUse (given .long .now)) in
     c .receive-frame-over .ensures

@@ -48,7 +48,7 @@ receive-waiting-requires c κs = (receiver-facts _ (granted _ _ (c .before .befo
 
 returns-3 : tie.Need-returns-3
 unfolding receiveAnswer
-returns-3 c = 
+returns-3 c =
     let given = c .before .before .before .before .before .before .before .before .before .args in
     pick-yes (wellFormed (given .receiver)) _ _ _ (granted _ _ (c .before .before .before .before .before .before .well-formed .ensures) (c .before .before .before .before .before .if1 .left))
     (pick-yes (isFrame (given .kind) (given .number)) _ _ _ (granted _ _ (c .before .before .before .before .is-frame .ensures) (c .before .before .before .if2 .left)) (c .receive-waiting .ensures))
@@ -61,7 +61,7 @@ receive-bits-requires c κs = (receiver-facts _ (granted _ _ (c .before .before 
 
 returns-4 : tie.Need-returns-4
 unfolding receiveAnswer
-returns-4 c = 
+returns-4 c =
     let given = c .before .before .before .before .before .before .before .before .before .before .args in
     let columns = columnsFor (inUse (given .short .now)) (inUse (given .long .now)) in
     pick-yes (wellFormed (given .receiver)) _ _ _ (granted _ _ (c .before .before .before .before .before .before .before .well-formed .ensures) (c .before .before .before .before .before .before .if1 .left))
