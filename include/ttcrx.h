@@ -1,21 +1,22 @@
 /*
  * The C interface of the TTCrx model, libttcrx.a: frames, stored lines, fine delays, the receiver,
  * clock by clock, with register accesses between clocks, frame by frame, or a block of clocks at
- * once; and reports of stored lines. docs/USING.md shows how it is used.
+ * once; the same with an encoder's own columns; and reports of stored lines. docs/USING.md shows how
+ * it is used.
  *
  * Every function takes every value of its arguments, but for pointers (below). Each answer begins with
  * a number of refusal: TTCRX_ACCEPTED (0), or one of the TTCRX_REFUSED_ numbers. A refused call leaves
- * every other field of its answer 0, but for a state that was given, which comes back as it was; it
- * leaves a state that was lent as it was, and writes nothing of a lent buffer. ttcrx_version,
- * ttcrx_well_formed, ttcrx_filled_length and the functions on reports refuse nothing, and their answers
- * have no such number.
+ * every other field of its answer 0, but for the index of a bad column, and for a state that was given,
+ * which comes back as it was; it leaves a state that was lent as it was, and writes nothing of a lent
+ * buffer. ttcrx_version, ttcrx_well_formed, ttcrx_filled_length and the functions on reports refuse
+ * nothing, and their answers have no such number.
  *
- * A function that is lent characters, bytes or a buffer takes a pointer and a length in elements. What
- * the caller must ensure: the pointer is aligned and valid for that length, for writing too where it
- * is not const, and is not null unless the length is 0; it spans at most PTRDIFF_MAX bytes; a lent
- * receiver is one element; two regions lent to one call do not overlap; and while the function runs,
- * nothing else writes those elements, nor reads those that are lent for writing. Characters may be any
- * bytes, and no zero byte ends them.
+ * A function that is lent characters, bytes, columns or a buffer takes a pointer and a length in
+ * elements. What the caller must ensure: the pointer is aligned and valid for that length, for writing
+ * too where it is not const, and is not null unless the length is 0; it spans at most PTRDIFF_MAX
+ * bytes; a lent receiver is one element; two regions lent to one call do not overlap; and while the
+ * function runs, nothing else writes those elements, nor reads those that are lent for writing.
+ * Characters may be any bytes, and no zero byte ends them.
  *
  * A frame is a number whose most significant bit is sent first. A short frame (broadcast) has 16 bits:
  * start bit 0, format bit 0, a word of 8, 5 check bits, stop bit 1. A long frame (individually
@@ -70,6 +71,8 @@ uint32_t ttcrx_version(void);
 #define TTCRX_REFUSED_BLOCK_LENGTH 15  /* a block of more than TTCRX_BLOCK_CLOCKS bytes */
 #define TTCRX_REFUSED_RECORD_BUFFER 16 /* fewer than five numbers of room for each byte of a block */
 #define TTCRX_REFUSED_NO_SETTING 17    /* a write to 0 or 1: the byte belongs to no fine delay setting */
+#define TTCRX_REFUSED_COLUMNS 27       /* lent columns that are not 40 */
+#define TTCRX_REFUSED_COLUMN 28        /* a lent column that is bad: the index tells the first */
 
 /*
  * Verdicts on a finished frame, the field verdict of a clock's outputs. 1 to 4 were executed; 7, 8, 9
@@ -103,6 +106,10 @@ uint32_t ttcrx_version(void);
 
 /* The field verdict of a decoder is this, or one of the verdicts 7, 8, 9 and 11. */
 #define TTCRX_DECODED_GOOD 0
+
+/* How many columns are lent: those of a short frame's 8 data bits, then those of a long one's 32. */
+#define TTCRX_COLUMNS 40
+#define TTCRX_COLUMNS_SHORT 8
 
 /* Kinds of frames. */
 #define TTCRX_SHORT 0
@@ -347,6 +354,60 @@ typedef struct ttcrx_reported {
 #define TTCRX_LONGEST_LINE 38
 #define TTCRX_LONGEST_END 66
 
+/*
+ * The encoder's own columns. Each data bit of a frame has a column, a number that it brings into the
+ * check number: the exclusive-or of the columns of the data bits that are 1. The library has columns of
+ * its own, which are below. Beside each function that encodes, decodes, clocks, receives a whole frame
+ * or runs a block stands one whose name ends in _with_columns: it is lent TTCRX_COLUMNS numbers, and
+ * uses them instead, in this call alone. columns[i] is that of data bit i of a short frame (bit 0 is
+ * the least), for i from 0 to 7, and columns[8 + i] that of word bit i of a long one, for i from 0 to
+ * 31. No state keeps them. So if the clocks of one frame are lent different columns, those of its last
+ * clock decide what becomes of it.
+ *
+ * The columns of a group, the 8 or the 32, must be distinct numbers with an odd number of ones, three
+ * or more, and be under 2^5 for a short frame, under 2^7 for a long one. Any other column is bad, and
+ * of two equal ones in a group the later is. Columns of different groups may be equal.
+ *
+ * Refusals of these functions, in this order: 2, where a receiver is given or lent and is not well
+ * formed; 27: not TTCRX_COLUMNS numbers; 28: a bad column; then those of the function without columns.
+ * All columns are checked at each call, whatever it needs of them. The answer is that of the function
+ * without columns, with the index of the first bad column beside it, counted from 0 over both groups;
+ * it is 0 but with refusal 28. With the library's own columns,
+ *
+ *     7, 11, 13, 14, 19, 21, 22, 25,
+ *     7, 11, 13, 14, 19, 21, 22, 25, 26, 28, 35, 37, 38, 41, 42, 44,
+ *     49, 50, 52, 56, 67, 69, 70, 73, 74, 76, 81, 82, 84, 88, 97, 98,
+ *
+ * these functions answer what those without columns do, with index 0.
+ */
+
+/* What the check of columns answers. */
+typedef struct ttcrx_columns_answer {
+    uint8_t refusal;
+    uint8_t index; /* of the first bad column, 0 to 39, with refusal 28; else 0 */
+} ttcrx_columns_answer;
+
+/* The answers of the functions with columns: that of the function without, and the index. */
+typedef struct ttcrx_encoded_with_index {
+    ttcrx_encoded answer;
+    uint8_t index;
+} ttcrx_encoded_with_index;
+
+typedef struct ttcrx_decoded_with_index {
+    ttcrx_decoded answer;
+    uint8_t index;
+} ttcrx_decoded_with_index;
+
+typedef struct ttcrx_clock_with_index {
+    ttcrx_clock_answer answer;
+    uint8_t index;
+} ttcrx_clock_with_index;
+
+typedef struct ttcrx_block_with_index {
+    ttcrx_block_outcome answer;
+    uint8_t index;
+} ttcrx_block_with_index;
+
 /* The short frame of a byte. Refuses nothing. */
 ttcrx_encoded ttcrx_encode_short(uint8_t data);
 
@@ -469,6 +530,60 @@ ttcrx_block_outcome ttcrx_run_block(ttcrx_receiver *receiver, const uint8_t *blo
  * or 0 where these are more than the length. Refuses nothing.
  */
 size_t ttcrx_filled_length(size_t buffer_length, size_t records);
+
+/*
+ * Checks lent columns, as each function with columns does. Refusals, in this order: 27: not
+ * TTCRX_COLUMNS numbers; 28: a bad column, of which the index tells the first.
+ */
+ttcrx_columns_answer ttcrx_check_columns(const uint8_t *columns, size_t columns_length);
+
+/* ttcrx_encode_short with lent columns. Refusals, in this order: 27, 28. */
+ttcrx_encoded_with_index ttcrx_encode_short_with_columns(const uint8_t *columns,
+                                                         size_t columns_length, uint8_t data);
+
+/* ttcrx_encode_long with lent columns. Refusals, in this order: 27, 28, 13. */
+ttcrx_encoded_with_index ttcrx_encode_long_with_columns(const uint8_t *columns,
+                                                        size_t columns_length, uint16_t address,
+                                                        uint8_t e, uint8_t sub_address,
+                                                        uint8_t data);
+
+/* ttcrx_decode_short with lent columns. Refusals, in this order: 27, 28, 12. */
+ttcrx_decoded_with_index ttcrx_decode_short_with_columns(const uint8_t *columns,
+                                                         size_t columns_length, uint64_t number);
+
+/* ttcrx_decode_long with lent columns. Refusals, in this order: 27, 28, 12. */
+ttcrx_decoded_with_index ttcrx_decode_long_with_columns(const uint8_t *columns,
+                                                        size_t columns_length, uint64_t number);
+
+/* ttcrx_clock with lent columns. Refusals, in this order: 2, 27, 28, 1. */
+ttcrx_clock_with_index ttcrx_clock_with_columns(ttcrx_receiver receiver, const uint8_t *columns,
+                                                size_t columns_length, uint8_t trigger,
+                                                uint8_t data);
+
+/* ttcrx_receive with lent columns. Refusals, in this order: 2, 27, 28, 12. */
+ttcrx_clock_with_index ttcrx_receive_with_columns(ttcrx_receiver receiver, const uint8_t *columns,
+                                                  size_t columns_length, uint8_t kind,
+                                                  uint64_t number);
+
+/* The same with kind TTCRX_SHORT. */
+ttcrx_clock_with_index ttcrx_receive_short_with_columns(ttcrx_receiver receiver,
+                                                        const uint8_t *columns,
+                                                        size_t columns_length, uint64_t number);
+
+/* The same with kind TTCRX_LONG. */
+ttcrx_clock_with_index ttcrx_receive_long_with_columns(ttcrx_receiver receiver,
+                                                       const uint8_t *columns,
+                                                       size_t columns_length, uint64_t number);
+
+/*
+ * ttcrx_run_block with lent columns, the same on every clock of the block. Refusals, in this order: 2,
+ * 27, 28, 15, 16, 1. As there, a refused call writes no byte of the receiver and no number of the
+ * buffer, and records is 0.
+ */
+ttcrx_block_with_index ttcrx_run_block_with_columns(ttcrx_receiver *receiver,
+                                                    const uint8_t *columns, size_t columns_length,
+                                                    const uint8_t *block, size_t block_length,
+                                                    uint32_t *buffer, size_t buffer_length);
 
 /*
  * A report of stored lines at the beginning of its input: what the program ttclines does, with a

@@ -1,1 +1,2 @@
 pub mod WithColumns
+pub mod Laws

@@ -7,6 +7,9 @@ ghost use Rattle.frame.specs.declared.Kind.the-variants.{Short, Long};
 ghost use Rattle.frame.specs.Columns.{columnsOf};
 ghost use Rattle.frame.specs.Encode.{encodeShort, encodeLong};
 ghost use Rattle.frame.specs.Decode.{decodeFrame};
+ghost use Rattle.lent_columns.specs.Check.{checkColumns};
+ghost use Rattle.lent_columns.specs.Frames.{encodeShortWithColumns, encodeLongWithColumns, decodeWithColumns};
+ghost use Rattle.receiver_with_columns.specs.WithColumns.{clockWithColumns, receiveWithColumns, receiveByFormatWithColumns, blockDoneWith, runBlockWithColumns};
 ghost use Rattle.stored_line.specs.Read.{readLine, lineAnswer};
 ghost use Rattle.stored_line.specs.Write.{writeDone, writeLine};
 ghost use Rattle.fine_delay.specs.Delay.{settingToByte, byteToSetting};
@@ -31,6 +34,14 @@ use frame::decode_long;
 use frame::decode_short;
 use frame::encode_long;
 use frame::encode_short;
+use lent_columns::ColumnsAnswer;
+use lent_columns::DecodedWithIndex;
+use lent_columns::EncodedWithIndex;
+use lent_columns::check_columns;
+use lent_columns::decode_long_with_columns;
+use lent_columns::decode_short_with_columns;
+use lent_columns::encode_long_with_columns;
+use lent_columns::encode_short_with_columns;
 use line_report::Report;
 use line_report::Reported;
 use line_report::report_end;
@@ -42,6 +53,11 @@ use receiver_state::FreshAnswer;
 use receiver_state::Receiver;
 use receiver_state::fresh;
 use receiver_state::well_formed;
+use receiver_with_columns::ClockWithIndex;
+use receiver_with_columns::clock_with_columns;
+use receiver_with_columns::receive_by_format_with_columns;
+use receiver_with_columns::receive_frame_with_columns;
+use receiver_with_columns::run_block_with_columns;
 use registers::ReadAnswer;
 use registers::WriteAnswer;
 use registers::read;
@@ -64,6 +80,13 @@ pub const VERSION: u32 = 4;
 pub struct BlockOutcome {
     pub refusal: u8,
     pub records: usize,
+}
+
+// The same for a caller who also lends columns.
+#[repr(C)]
+pub struct OutcomeWithIndex {
+    pub answer: BlockOutcome,
+    pub index: u8,
 }
 
 #[no_mangle]
@@ -195,8 +218,9 @@ pub extern "C" fn ttcrx_receive_long(receiver: Receiver, number: u64) -> ClockAn
     receive_frame(receiver, Kind::Long, number)
 }
 
-// The one function over a lent receiver: the board service keeps its receiver for weeks. The copy is
-// taken once a block, and stored where the block was accepted: a refused one writes no byte of it.
+// Two functions take the receiver by reference, this one and the one with columns: the board service
+// keeps its receiver for weeks. The copy is taken once a block, and stored where the block was accepted:
+// a refused one writes no byte of it.
 #[no_mangle]
 pub extern "C" fn ttcrx_run_block(
     receiver: &mut Receiver,
@@ -212,6 +236,117 @@ pub extern "C" fn ttcrx_run_block(
     BlockOutcome {
         refusal: answer.refusal,
         records: answer.records,
+    }
+}
+
+#[no_mangle]
+pub extern "C" fn ttcrx_check_columns(columns: &[u8]) -> ColumnsAnswer
+    ensures { λ r. ⌜ r ≡ checkColumns (now (columns .entry)) ⌝ }
+{
+    check_columns(columns)
+}
+
+#[no_mangle]
+pub extern "C" fn ttcrx_encode_short_with_columns(columns: &[u8], data: u8) -> EncodedWithIndex
+    ensures { λ r. ⌜ r ≡ encodeShortWithColumns (now (columns .entry)) «data» ⌝ }
+{
+    encode_short_with_columns(columns, data)
+}
+
+#[no_mangle]
+pub extern "C" fn ttcrx_encode_long_with_columns(
+    columns: &[u8],
+    address: u16,
+    e: u8,
+    sub: u8,
+    data: u8,
+) -> EncodedWithIndex
+    ensures { λ r. ⌜ r ≡ encodeLongWithColumns (now (columns .entry)) address e sub «data» ⌝ }
+{
+    encode_long_with_columns(columns, address, e, sub, data)
+}
+
+#[no_mangle]
+pub extern "C" fn ttcrx_decode_short_with_columns(columns: &[u8], number: u64) -> DecodedWithIndex
+    ensures { λ r. ⌜ r ≡ decodeWithColumns (now (columns .entry)) Short number ⌝ }
+{
+    decode_short_with_columns(columns, number)
+}
+
+#[no_mangle]
+pub extern "C" fn ttcrx_decode_long_with_columns(columns: &[u8], number: u64) -> DecodedWithIndex
+    ensures { λ r. ⌜ r ≡ decodeWithColumns (now (columns .entry)) Long number ⌝ }
+{
+    decode_long_with_columns(columns, number)
+}
+
+#[no_mangle]
+pub extern "C" fn ttcrx_clock_with_columns(
+    receiver: Receiver,
+    columns: &[u8],
+    trigger: u8,
+    data: u8,
+) -> ClockWithIndex
+    ensures { λ r. ⌜ r ≡ clockWithColumns receiver (now (columns .entry)) trigger «data» ⌝ }
+{
+    clock_with_columns(receiver, columns, trigger, data)
+}
+
+#[no_mangle]
+pub extern "C" fn ttcrx_receive_with_columns(
+    receiver: Receiver,
+    columns: &[u8],
+    kind: u8,
+    number: u64,
+) -> ClockWithIndex
+    ensures { λ r. ⌜ r ≡ receiveByFormatWithColumns receiver (now (columns .entry)) kind number ⌝ }
+{
+    receive_by_format_with_columns(receiver, columns, kind, number)
+}
+
+#[no_mangle]
+pub extern "C" fn ttcrx_receive_short_with_columns(
+    receiver: Receiver,
+    columns: &[u8],
+    number: u64,
+) -> ClockWithIndex
+    ensures { λ r. ⌜ r ≡ receiveWithColumns receiver (now (columns .entry)) Short number ⌝ }
+{
+    receive_frame_with_columns(receiver, columns, Kind::Short, number)
+}
+
+#[no_mangle]
+pub extern "C" fn ttcrx_receive_long_with_columns(
+    receiver: Receiver,
+    columns: &[u8],
+    number: u64,
+) -> ClockWithIndex
+    ensures { λ r. ⌜ r ≡ receiveWithColumns receiver (now (columns .entry)) Long number ⌝ }
+{
+    receive_frame_with_columns(receiver, columns, Kind::Long, number)
+}
+
+// As `ttcrx_run_block`, with columns.
+#[no_mangle]
+pub extern "C" fn ttcrx_run_block_with_columns(
+    receiver: &mut Receiver,
+    columns: &[u8],
+    block: &[u8],
+    buffer: &mut [u32],
+) -> OutcomeWithIndex
+    ensures { λ r. ⌜ blockDoneWith (record { answer = record { refusal = r .answer .refusal; receiver = now (receiver .exit); records = r .answer .records }; index = r .index }) (now (buffer .exit)) ≡ runBlockWithColumns (now (receiver .entry)) (now (columns .entry)) (now (block .entry)) (now (buffer .entry)) ⌝ }
+{
+    let done = run_block_with_columns(*receiver, columns, block, buffer);
+    if done.answer.refusal == 0 {
+        *receiver = done.answer.receiver;
+    }
+    let answer = BlockOutcome {
+        refusal: done.answer.refusal,
+        records: done.answer.records,
+    };
+    OutcomeWithIndex {
+        answer,
+        index: done.index,
     }
 }
 

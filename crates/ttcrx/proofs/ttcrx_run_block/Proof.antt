@@ -71,6 +71,7 @@ use Rattle.trace.proofs.run_block.Met as callee-thm
 use Rattle.ttcrx.specs.declared.BlockOutcome.{BlockOutcome}
 use Rattle.ttcrx.proofs.BlockOutcome as O
 use Rattle.ttcrx.proofs.BlockOutcome.Laws as O′
+use Rattle.ttcrx.proofs.Walk.{assigns-if, refuses}
 use Rattle.ttcrx.proofs.ttcrx_run_block as this
 use Rattle.ttcrx.proofs.ttcrx_run_block.Key.{name as #ttcrx·ttcrx-run-block}
 use Rattle.ttcrx.proofs.ttcrx_run_block.Statement as stated
@@ -108,22 +109,6 @@ Keeps receiver d = T (not (eqb (d .answer .refusal) 0)) → receiver ≡ d .answ
 
 keeps : (receiver : Receiver) (block buffer : List ℕ) → Keeps receiver (due receiver block buffer)
 keeps receiver block buffer n = sym (refused-keeps columnsOf receiver block buffer (refuses (due receiver block buffer .answer .refusal) n) .receiver-stays)
-  where
-    refuses : (n : ℕ) → T (not (eqb n 0)) → n ≢ 0
-    refuses zero never = absurd never
-    refuses (suc n) t = λ e. omega arith
-
--- The step of `if test { place = value; }`, which leaves the same context either way: where the test fails, what is had must be what the store
--- would have left.
-module _ {M : Type 1} {𝓤 : URA M} {H : Heap 𝓤} {𝓐 : Atoms 𝓤} {K : Type 0} {W : Given 𝓤 H 𝓐} {Γ : List (Item 𝓤)}
-    {E : Env 𝓤 H} {C : Calls 𝓤 H} {Λ : Loops 𝓤 H} {q : Ends 𝓤 H} where
-  assigns-if : K → {test : Opd} {p : Place} {rv : Rv} {rest : Code} {yes : Bool} {v : Val} {sp : Spot 𝓤 H} {Γ′ : List (Item 𝓤)}
-      → Run.Opd K W Γ E test (vbool yes) → Run.Rv K W Γ E rv v → Run.Finds K W Γ E p sp → Run.Writes K W Γ (sp .0) (sp .1) (sp .2) v Γ′
-      → (T (not yes) → Step K W Γ′ (runs C Λ E rest q) Γ (runs C Λ E rest q))
-      → Step K W Γ′ (runs C Λ E rest q) Γ (runs C Λ E (seq (cond test (assign p rv) skip) rest) q)
-  assigns-if t test value place stored same = step (λ s. first t $ branches t test
-      (λ _. assigns-last t value place stored $ record { prf = s .prf })
-      (λ no. skips t $ record { prf = (same no $ s) .prf }))
 
 -- what the function has of its parameters at exit: the receiver's borrow, nothing of the block, and the buffer's last value
 abbrev stayed : Stays (this.ended .signature .params) (this.ended .kept)
