@@ -1,7 +1,7 @@
 //! Q-3 of document 02, "A whole captured trace in one call": single clocks of the receiver, and a
-//! record of each that has one.
+//! record of each that has one. Q-11: the same with columns that are given.
 
-use super::{Outputs, Receiver, Refusal, Verdict};
+use super::{Columns, Outputs, Receiver, Refusal, Verdict};
 
 /// Q-3: "blocks of up to 4,096 clocks".
 pub const CLOCKS: usize = 4096;
@@ -42,9 +42,14 @@ fn code(outputs: &Outputs) -> u32 {
 /// Q-3: "For each clock with a trigger or a verdict other than 0, write five 32-bit numbers: place
 /// in the block (from 0), bunch and event counts before the clock, a code .., the word."
 #[inline]
-fn clock(receiver: &mut Receiver, place: u32, byte: u8) -> Option<[u32; NUMBERS]> {
+fn clock(
+    columns: &Columns,
+    receiver: &mut Receiver,
+    place: u32,
+    byte: u8,
+) -> Option<[u32; NUMBERS]> {
     let (bunch, event) = (receiver.bunch(), receiver.event());
-    let outputs = receiver.clock(byte & 1 == 1, byte & 2 == 2);
+    let outputs = receiver.clock_with(columns, byte & 1 == 1, byte & 2 == 2);
     if !outputs.trigger && outputs.fate.verdict == Verdict::None {
         return None;
     }
@@ -55,16 +60,27 @@ fn clock(receiver: &mut Receiver, place: u32, byte: u8) -> Option<[u32; NUMBERS]
 /// A block on a receiver. Gives the number of records: "Each record goes behind the last in the
 /// lent buffer, and the numbers after the last record stay." Refusals 15, 16 and 1.
 #[inline]
-pub fn run(receiver: &mut Receiver, block: &[u8], buffer: &mut [u32]) -> Result<usize, Refusal> {
+pub fn run_with(
+    columns: &Columns,
+    receiver: &mut Receiver,
+    block: &[u8],
+    buffer: &mut [u32],
+) -> Result<usize, Refusal> {
     check(block, buffer.len())?;
     let mut end = 0;
     for (place, &byte) in (0..).zip(block) {
-        if let Some(record) = clock(receiver, place, byte) {
+        if let Some(record) = clock(columns, receiver, place, byte) {
             buffer[end..end + NUMBERS].copy_from_slice(&record);
             end += NUMBERS;
         }
     }
     Ok(end / NUMBERS)
+}
+
+/// `run_with` the own columns. Refusals 15, 16 and 1.
+#[inline]
+pub fn run(receiver: &mut Receiver, block: &[u8], buffer: &mut [u32]) -> Result<usize, Refusal> {
+    run_with(Columns::own(), receiver, block, buffer)
 }
 
 /// Q-3: "the filled part of the caller's own buffer, or its empty front where the number doesn't

@@ -1,11 +1,14 @@
-//! "Frames on channel B" of document 01, with what Q-8 of document 02 adds, "Say what was wrong and
-//! which bit".
+//! "Frames on channel B" of document 01, with what Q-8 and Q-11 of document 02 add, "Say what was
+//! wrong and which bit" and "The encoder's own columns".
 //!
 //! A frame is encoded as bits in the order sent. A received frame is decoded by a search for the
 //! nearest codeword among itself and its single flips of a protected bit, in the order sent; each
 //! one is tried by encoding its data afresh and comparing the check bits. No syndrome is worked out.
+//!
+//! A function whose name ends in `_with` uses the columns that it is given; the same name without
+//! that is the function with document 01's own.
 
-use super::Refusal;
+use super::{Columns, Refusal};
 
 /// The two frames, and their widths.
 #[derive(Clone, Copy, Debug, PartialEq, Eq)]
@@ -106,54 +109,8 @@ pub struct Decoded {
     pub fields: Fields,
 }
 
-/// The columns of data bits 0 to 31; the short frame uses the first eight.
-pub const COLUMNS: [u8; 32] = [
-    7, 11, 13, 14, 19, 21, 22, 25, 26, 28, 35, 37, 38, 41, 42, 44, 49, 50, 52, 56, 67, 69, 70, 73,
-    74, 76, 81, 82, 84, 88, 97, 98,
-];
-
 /// The fixed bit of a long word.
 const FIXED: u32 = 1 << 16;
-
-/// "The exclusive-or of the columns of the data bits that are 1."
-const fn check_number(data: u32) -> u8 {
-    let mut check = 0;
-    let mut bit = 0;
-    while bit < COLUMNS.len() {
-        if (data >> bit) & 1 == 1 {
-            check ^= COLUMNS[bit];
-        }
-        bit += 1;
-    }
-    check
-}
-
-/// The check numbers of every value of each of the four bytes of a word.
-static BYTE_CHECKS: [[u8; 256]; 4] = byte_checks();
-
-const fn byte_checks() -> [[u8; 256]; 4] {
-    let mut checks = [[0; 256]; 4];
-    let mut place = 0;
-    while place < 4 {
-        let mut value = 0;
-        while value < 256 {
-            checks[place][value] = check_number((value as u32) << (8 * place));
-            value += 1;
-        }
-        place += 1;
-    }
-    checks
-}
-
-/// `check_number`, put together from the bytes of the word.
-#[inline]
-fn quick_check_number(data: u32) -> u8 {
-    let [a, b, c, d] = data.to_le_bytes();
-    BYTE_CHECKS[0][usize::from(a)]
-        ^ BYTE_CHECKS[1][usize::from(b)]
-        ^ BYTE_CHECKS[2][usize::from(c)]
-        ^ BYTE_CHECKS[3][usize::from(d)]
-}
 
 /// "First bit sent = most significant": so many bits of a number in the order sent.
 #[inline]
@@ -169,26 +126,27 @@ fn send(sent: u64, value: u32, length: u8) -> u64 {
 }
 
 /// Start 0, the format bit, data bits, check bits, stop 1.
-fn send_frame(kind: Kind, data: u32) -> u64 {
+fn send_frame(columns: &Columns, kind: Kind, data: u32) -> u64 {
     let start = send(0, 0, 1);
     let head = send(start, kind.number().into(), 1);
     let body = send(head, data, kind.data_bits());
-    let checked = send(body, check_number(data).into(), kind.check_bits());
+    let check = columns.check_number(kind, data);
+    let checked = send(body, check.into(), kind.check_bits());
     send(checked, 1, 1)
 }
 
 /// The short frame of a byte.
-pub fn encode_short(data: u8) -> u64 {
-    send_frame(Kind::Short, data.into())
+pub fn encode_short_with(columns: &Columns, data: u8) -> u64 {
+    send_frame(columns, Kind::Short, data.into())
 }
 
 /// The long frame of any 32 word bits, the fixed bit as it is in them.
-pub fn encode_word(word: u32) -> u64 {
-    send_frame(Kind::Long, word)
+pub fn encode_word_with(columns: &Columns, word: u32) -> u64 {
+    send_frame(columns, Kind::Long, word)
 }
 
 /// The long frame of these fields, its fixed bit 1. Refusal 13.
-pub fn encode_long(fields: Fields) -> Result<u64, Refusal> {
+pub fn encode_long_with(columns: &Columns, fields: Fields) -> Result<u64, Refusal> {
     if fields.address > 16383 || fields.e > 1 {
         return Err(Refusal::Field);
     }
@@ -197,7 +155,22 @@ pub fn encode_long(fields: Fields) -> Result<u64, Refusal> {
     let fixed = send(e, 1, 1);
     let sub_address = send(fixed, fields.sub_address.into(), 8);
     let word = send(sub_address, fields.data.into(), 8);
-    Ok(encode_word(word as u32))
+    Ok(encode_word_with(columns, word as u32))
+}
+
+/// `encode_short_with` the own columns.
+pub fn encode_short(data: u8) -> u64 {
+    encode_short_with(Columns::own(), data)
+}
+
+/// `encode_word_with` the own columns.
+pub fn encode_word(word: u32) -> u64 {
+    encode_word_with(Columns::own(), word)
+}
+
+/// `encode_long_with` the own columns. Refusal 13.
+pub fn encode_long(fields: Fields) -> Result<u64, Refusal> {
+    encode_long_with(Columns::own(), fields)
 }
 
 /// "Stored lines" and refusal 12: a short number is under 2^14; a long one has bit 40 set and none
@@ -222,9 +195,9 @@ fn data_of(kind: Kind, number: u64) -> u32 {
 
 /// Are the check bits those of the data bits? No other bit is looked at.
 #[inline]
-fn is_codeword(kind: Kind, number: u64) -> bool {
+fn is_codeword(columns: &Columns, kind: Kind, number: u64) -> bool {
     let check = (number >> 1) & ((1 << kind.check_bits()) - 1);
-    u64::from(quick_check_number(data_of(kind, number))) == check
+    u64::from(columns.quick_check_number(kind, data_of(kind, number))) == check
 }
 
 /// Q-8: "counts the frame's bits after the format bit, in the order sent": the bit at this place,
@@ -237,23 +210,27 @@ const fn bit_at(kind: Kind, place: u8) -> u64 {
 
 /// The number itself if it is a codeword, else that with one protected bit flipped which is, and
 /// the place of that bit; none if there is none.
+///
+/// There is never a choice. Two of these numbers differ in one or two protected bits. If both were
+/// codewords, then a column would be 0, or have a single one, or be equal to another of its group.
 #[inline]
-fn nearest(kind: Kind, number: u64) -> Option<(u64, Option<u8>)> {
-    if is_codeword(kind, number) {
+fn nearest(columns: &Columns, kind: Kind, number: u64) -> Option<(u64, Option<u8>)> {
+    if is_codeword(columns, kind, number) {
         return Some((number, None));
     }
     (1..=kind.protected_bits())
         .map(|place| (number ^ bit_at(kind, place), Some(place)))
-        .find(|&(flipped, _)| is_codeword(kind, flipped))
+        .find(|&(flipped, _)| is_codeword(columns, kind, flipped))
 }
 
 /// Q-8: "Verdict 8 is kept for an even number of ones in the syndrome; verdict 11 is given for an
 /// odd number that belongs to no bit."
 ///
-/// Here the ones of data and check bits as received are counted instead. Each column has three
-/// ones, an odd number, so that the check number of any data has an odd number of ones exactly if
-/// the data have. The syndrome is the received check number xor that of the received data: the
-/// number of its ones is odd exactly if that of the received check and data bits together is.
+/// Here the ones of data and check bits as received are counted instead, whatever the columns are.
+/// Each good column has an odd number of ones, so that the check number of any data has an odd
+/// number of ones exactly if the data have. The syndrome is the received check number xor that of
+/// the received data: the number of its ones is odd exactly if that of the received check and data
+/// bits together is.
 fn uncorrectable(kind: Kind, number: u64) -> Verdict {
     let after_format = bits(number, kind.length()).skip(2);
     let protected = after_format.take(kind.protected_bits().into());
@@ -287,11 +264,11 @@ fn bad(verdict: Verdict, word: u32) -> Decoded {
 /// "Fate of a finished frame": verdicts 7, then 8 or 11, then 9; else the corrected frame. With the
 /// widths of one kind as constants the search is faster.
 #[inline(always)]
-fn received(kind: Kind, number: u64) -> Decoded {
+fn received(columns: &Columns, kind: Kind, number: u64) -> Decoded {
     if number & 1 == 0 {
         return bad(Verdict::StopBit, 0);
     }
-    let Some((right, flipped)) = nearest(kind, number) else {
+    let Some((right, flipped)) = nearest(columns, kind, number) else {
         return bad(uncorrectable(kind, number), 0);
     };
     let word = data_of(kind, right);
@@ -302,21 +279,36 @@ fn received(kind: Kind, number: u64) -> Decoded {
 }
 
 /// What a number says as a short frame. Refusal 12.
-pub fn decode_short(number: u64) -> Result<Decoded, Refusal> {
+pub fn decode_short_with(columns: &Columns, number: u64) -> Result<Decoded, Refusal> {
     leading(Kind::Short, number)?;
-    Ok(received(Kind::Short, number))
+    Ok(received(columns, Kind::Short, number))
 }
 
 /// What a number says as a long frame. Refusal 12.
-pub fn decode_long(number: u64) -> Result<Decoded, Refusal> {
+pub fn decode_long_with(columns: &Columns, number: u64) -> Result<Decoded, Refusal> {
     leading(Kind::Long, number)?;
-    Ok(received(Kind::Long, number))
+    Ok(received(columns, Kind::Long, number))
 }
 
 /// What a number says as a frame of this kind. Refusal 12.
-pub fn decode(kind: Kind, number: u64) -> Result<Decoded, Refusal> {
+pub fn decode_with(columns: &Columns, kind: Kind, number: u64) -> Result<Decoded, Refusal> {
     match kind {
-        Kind::Short => decode_short(number),
-        Kind::Long => decode_long(number),
+        Kind::Short => decode_short_with(columns, number),
+        Kind::Long => decode_long_with(columns, number),
     }
+}
+
+/// `decode_short_with` the own columns. Refusal 12.
+pub fn decode_short(number: u64) -> Result<Decoded, Refusal> {
+    decode_short_with(Columns::own(), number)
+}
+
+/// `decode_long_with` the own columns. Refusal 12.
+pub fn decode_long(number: u64) -> Result<Decoded, Refusal> {
+    decode_long_with(Columns::own(), number)
+}
+
+/// `decode_with` the own columns. Refusal 12.
+pub fn decode(kind: Kind, number: u64) -> Result<Decoded, Refusal> {
+    decode_with(Columns::own(), kind, number)
 }

@@ -1,9 +1,13 @@
-//! "One clock" and "Fate of a finished frame" of document 01, and of document 02:
-//! the receiver.
+//! "One clock" and "Fate of a finished frame" of document 01, and of document
+//! 02: the receiver.
+//!
+//! A function whose name ends in `_with` uses the columns that it is given; the same name without
+//! that is the function with document 01's own. The state keeps no columns: a frame is decoded with
+//! those of its last clock.
 
-use super::frame::{bits, decode, leading};
+use super::frame::{bits, decode_with, leading};
 use super::stored::Stored;
-use super::{Decoded, Fields, Kind, Refusal, Verdict};
+use super::{Columns, Decoded, Fields, Kind, Refusal, Verdict};
 
 /// "Fate of a finished frame": verdict, corrected flag, place and word that a clock shows.
 #[derive(Clone, Copy, Debug, Default, PartialEq, Eq)]
@@ -274,7 +278,7 @@ impl Receiver {
 
     /// "One clock": steps 1 to 3, the frame's effect last, over the numbers before this clock.
     #[inline]
-    pub fn clock(&mut self, trigger: bool, data: bool) -> Outputs {
+    pub fn clock_with(&mut self, columns: &Columns, trigger: bool, data: bool) -> Outputs {
         let running = !matches!(self.left, Left::Nothing);
         let bus = self.bus(trigger);
         if trigger {
@@ -282,19 +286,34 @@ impl Receiver {
         }
         self.bunch = (self.bunch + 1) % BUNCHES;
         let finished = self.channel_b.take(data);
-        let fate = finished.map_or(Fate::default(), |(kind, number)| self.finish(kind, number));
+        let fate = match finished {
+            Some((kind, number)) => self.finish(columns, kind, number),
+            None => Fate::default(),
+        };
         Outputs { trigger, missed: trigger && running, bus, fate }
+    }
+
+    /// `clock_with` the own columns.
+    #[inline]
+    pub fn clock(&mut self, trigger: bool, data: bool) -> Outputs {
+        self.clock_with(Columns::own(), trigger, data)
     }
 
     /// Clocks with so many bits of a number, in the order sent and without triggers. Gives what the
     /// last of them shows.
     #[inline]
-    pub fn send(&mut self, number: u64, length: u8) -> Outputs {
+    pub fn send_with(&mut self, columns: &Columns, number: u64, length: u8) -> Outputs {
         let mut last = Outputs::default();
         for bit in bits(number, length) {
-            last = self.clock(false, bit);
+            last = self.clock_with(columns, false, bit);
         }
         last
+    }
+
+    /// `send_with` the own columns.
+    #[inline]
+    pub fn send(&mut self, number: u64, length: u8) -> Outputs {
+        self.send_with(Columns::own(), number, length)
     }
 
     /// So many clocks with a 1 on channel B, which is idle, and without triggers.
@@ -305,10 +324,20 @@ impl Receiver {
     }
 
     /// A whole frame: its kind as a number, and its bits. Refusal 12.
-    pub fn receive(&mut self, kind: u8, number: u64) -> Result<Outputs, Refusal> {
+    pub fn receive_with(
+        &mut self,
+        columns: &Columns,
+        kind: u8,
+        number: u64,
+    ) -> Result<Outputs, Refusal> {
         let kind = Kind::of_number(kind).ok_or(Refusal::Frame)?;
         leading(kind, number)?;
-        Ok(self.send(number, kind.length()))
+        Ok(self.send_with(columns, number, kind.length()))
+    }
+
+    /// `receive_with` the own columns. Refusal 12.
+    pub fn receive(&mut self, kind: u8, number: u64) -> Result<Outputs, Refusal> {
+        self.receive_with(Columns::own(), kind, number)
     }
 
     /// "One clock", step 1: a running sequence goes on; else a trigger starts one.
@@ -347,8 +376,8 @@ impl Receiver {
 
     /// "One clock", step 3, and "Fate of a finished frame": the frame acts. It was taken bit by
     /// bit, so that start and format are right.
-    fn finish(&mut self, kind: Kind, number: u64) -> Fate {
-        let decoded = decode(kind, number).expect("start and format are right");
+    fn finish(&mut self, columns: &Columns, kind: Kind, number: u64) -> Fate {
+        let decoded = decode_with(columns, kind, number).expect("start and format are right");
         let verdict = self.verdict(kind, &decoded);
         let fate = Fate { verdict, flipped: decoded.flipped, word: decoded.word };
         self.count_errors(fate);
