@@ -23,6 +23,8 @@ pub const REFUSED_LINE_BUFFER: u8 = 14;
 pub const REFUSED_BLOCK_LENGTH: u8 = 15;
 pub const REFUSED_RECORD_BUFFER: u8 = 16;
 pub const REFUSED_NO_SETTING: u8 = 17;
+pub const REFUSED_COLUMNS: u8 = 27;
+pub const REFUSED_COLUMN: u8 = 28;
 
 pub const VERDICT_NONE: u8 = 0;
 pub const VERDICT_BROADCAST: u8 = 1;
@@ -38,6 +40,9 @@ pub const VERDICT_NO_SETTING: u8 = 10;
 pub const VERDICT_ODD_SYNDROME: u8 = 11;
 
 pub const DECODED_GOOD: u8 = 0;
+
+pub const COLUMNS: usize = 40;
+pub const COLUMNS_SHORT: usize = 8;
 
 pub const SHORT: u8 = 0;
 pub const LONG: u8 = 1;
@@ -266,6 +271,36 @@ layouts! {
         80 written: usize,
         88 room_wanted: usize,
     }
+
+    /// `ttcrx_columns_answer`
+    ColumnsAnswer: 2, 1 {
+        0 refusal: u8,
+        1 index: u8,
+    }
+
+    /// `ttcrx_encoded_with_index`
+    EncodedWithIndex: 24, 8 {
+        0 answer: Encoded,
+        16 index: u8,
+    }
+
+    /// `ttcrx_decoded_with_index`
+    DecodedWithIndex: 20, 4 {
+        0 answer: Decoded,
+        16 index: u8,
+    }
+
+    /// `ttcrx_clock_with_index`
+    ClockWithIndex: 80, 8 {
+        0 answer: ClockAnswer,
+        72 index: u8,
+    }
+
+    /// `ttcrx_block_with_index`
+    BlockWithIndex: 24, 8 {
+        0 answer: BlockOutcome,
+        16 index: u8,
+    }
 }
 
 extern "C" {
@@ -295,6 +330,65 @@ extern "C" {
         buffer_length: usize,
     ) -> BlockOutcome;
     pub fn ttcrx_filled_length(buffer_length: usize, records: usize) -> usize;
+    pub fn ttcrx_check_columns(columns: *const u8, columns_length: usize) -> ColumnsAnswer;
+    pub fn ttcrx_encode_short_with_columns(
+        columns: *const u8,
+        columns_length: usize,
+        data: u8,
+    ) -> EncodedWithIndex;
+    pub fn ttcrx_encode_long_with_columns(
+        columns: *const u8,
+        columns_length: usize,
+        address: u16,
+        e: u8,
+        sub_address: u8,
+        data: u8,
+    ) -> EncodedWithIndex;
+    pub fn ttcrx_decode_short_with_columns(
+        columns: *const u8,
+        columns_length: usize,
+        number: u64,
+    ) -> DecodedWithIndex;
+    pub fn ttcrx_decode_long_with_columns(
+        columns: *const u8,
+        columns_length: usize,
+        number: u64,
+    ) -> DecodedWithIndex;
+    pub fn ttcrx_clock_with_columns(
+        receiver: Receiver,
+        columns: *const u8,
+        columns_length: usize,
+        trigger: u8,
+        data: u8,
+    ) -> ClockWithIndex;
+    pub fn ttcrx_receive_with_columns(
+        receiver: Receiver,
+        columns: *const u8,
+        columns_length: usize,
+        kind: u8,
+        number: u64,
+    ) -> ClockWithIndex;
+    pub fn ttcrx_receive_short_with_columns(
+        receiver: Receiver,
+        columns: *const u8,
+        columns_length: usize,
+        number: u64,
+    ) -> ClockWithIndex;
+    pub fn ttcrx_receive_long_with_columns(
+        receiver: Receiver,
+        columns: *const u8,
+        columns_length: usize,
+        number: u64,
+    ) -> ClockWithIndex;
+    pub fn ttcrx_run_block_with_columns(
+        receiver: *mut Receiver,
+        columns: *const u8,
+        columns_length: usize,
+        block: *const u8,
+        block_length: usize,
+        buffer: *mut u32,
+        buffer_length: usize,
+    ) -> BlockWithIndex;
     pub fn ttcrx_report_start() -> Report;
     pub fn ttcrx_report_input(
         report: Report,

@@ -8,18 +8,21 @@ pub use crate::sys::{
     Setting, Settings, WriteAnswer, Written,
 };
 pub use crate::sys::{
-    ACCEPTED, ADDRESS_ALL, BLOCK_CLOCKS, DECODED_GOOD, LONG, LONGEST_END, LONGEST_LINE,
-    PLACES_LONG, PLACES_SHORT, RECORD_NUMBERS, SHORT, SUB_ADDRESS_RESET, VERSION,
+    BlockWithIndex, ClockWithIndex, ColumnsAnswer, DecodedWithIndex, EncodedWithIndex,
+};
+pub use crate::sys::{
+    ACCEPTED, ADDRESS_ALL, BLOCK_CLOCKS, COLUMNS, COLUMNS_SHORT, DECODED_GOOD, LONG, LONGEST_END,
+    LONGEST_LINE, PLACES_LONG, PLACES_SHORT, RECORD_NUMBERS, SHORT, SUB_ADDRESS_RESET, VERSION,
 };
 pub use crate::sys::{
     CODE_CORRECTED, CODE_MISSED, CODE_TRIGGER, CODE_VERDICT, STROBE_BUNCH, STROBE_EVENT_HIGH,
     STROBE_EVENT_LOW, STROBE_NONE,
 };
 pub use crate::sys::{
-    REFUSED_BIT, REFUSED_BLOCK_LENGTH, REFUSED_CHARACTER, REFUSED_CONFIG, REFUSED_DELAY_BYTE,
-    REFUSED_FIELD, REFUSED_FRAME, REFUSED_I2C_ID, REFUSED_ID, REFUSED_LINE_BUFFER,
-    REFUSED_LINE_LENGTH, REFUSED_NO_SETTING, REFUSED_READ_ONLY, REFUSED_RECORD_BUFFER,
-    REFUSED_REGISTER, REFUSED_SETTING, REFUSED_STATE,
+    REFUSED_BIT, REFUSED_BLOCK_LENGTH, REFUSED_CHARACTER, REFUSED_COLUMN, REFUSED_COLUMNS,
+    REFUSED_CONFIG, REFUSED_DELAY_BYTE, REFUSED_FIELD, REFUSED_FRAME, REFUSED_I2C_ID, REFUSED_ID,
+    REFUSED_LINE_BUFFER, REFUSED_LINE_LENGTH, REFUSED_NO_SETTING, REFUSED_READ_ONLY,
+    REFUSED_RECORD_BUFFER, REFUSED_REGISTER, REFUSED_SETTING, REFUSED_STATE,
 };
 pub use crate::sys::{
     VERDICT_BROADCAST, VERDICT_EVEN_SYNDROME, VERDICT_FIXED_BIT, VERDICT_NONE, VERDICT_NO_SETTING,
@@ -174,6 +177,121 @@ pub fn records(buffer: &[u32], records: usize) -> impl ExactSizeIterator<Item = 
         code: numbers[3],
         word: numbers[4],
     })
+}
+
+/// Checks lent columns, as each function with columns does. Refusals 27 and 28.
+pub fn check_columns(columns: &[u8]) -> ColumnsAnswer {
+    // SAFETY: a shared slice is valid for reading its length, and unchanged meanwhile.
+    unsafe { sys::ttcrx_check_columns(columns.as_ptr(), columns.len()) }
+}
+
+/// The short frame of a byte with lent columns. Refusals 27 and 28.
+pub fn encode_short_with_columns(columns: &[u8], data: u8) -> EncodedWithIndex {
+    // SAFETY: a shared slice is valid for reading its length, and unchanged meanwhile.
+    unsafe { sys::ttcrx_encode_short_with_columns(columns.as_ptr(), columns.len(), data) }
+}
+
+/// The long frame of these fields with lent columns. Refusals 27, 28 and 13.
+pub fn encode_long_with_columns(
+    columns: &[u8],
+    address: u16,
+    e: u8,
+    sub_address: u8,
+    data: u8,
+) -> EncodedWithIndex {
+    // SAFETY: a shared slice is valid for reading its length, and unchanged meanwhile.
+    unsafe {
+        sys::ttcrx_encode_long_with_columns(
+            columns.as_ptr(),
+            columns.len(),
+            address,
+            e,
+            sub_address,
+            data,
+        )
+    }
+}
+
+/// What a number says as a short frame with lent columns. Refusals 27, 28 and 12.
+pub fn decode_short_with_columns(columns: &[u8], number: u64) -> DecodedWithIndex {
+    // SAFETY: a shared slice is valid for reading its length, and unchanged meanwhile.
+    unsafe { sys::ttcrx_decode_short_with_columns(columns.as_ptr(), columns.len(), number) }
+}
+
+/// What a number says as a long frame with lent columns. Refusals 27, 28 and 12.
+pub fn decode_long_with_columns(columns: &[u8], number: u64) -> DecodedWithIndex {
+    // SAFETY: a shared slice is valid for reading its length, and unchanged meanwhile.
+    unsafe { sys::ttcrx_decode_long_with_columns(columns.as_ptr(), columns.len(), number) }
+}
+
+/// One clock with lent columns. Refusals 2, 27, 28 and 1.
+pub fn clock_with_columns(
+    receiver: Receiver,
+    columns: &[u8],
+    trigger: u8,
+    data: u8,
+) -> ClockWithIndex {
+    let (pointer, length) = (columns.as_ptr(), columns.len());
+    // SAFETY: a shared slice is valid for reading its length, and unchanged meanwhile.
+    unsafe { sys::ttcrx_clock_with_columns(receiver, pointer, length, trigger, data) }
+}
+
+/// Feeds a whole frame with lent columns. Refusals 2, 27, 28 and 12.
+pub fn receive_with_columns(
+    receiver: Receiver,
+    columns: &[u8],
+    kind: u8,
+    number: u64,
+) -> ClockWithIndex {
+    let (pointer, length) = (columns.as_ptr(), columns.len());
+    // SAFETY: a shared slice is valid for reading its length, and unchanged meanwhile.
+    unsafe { sys::ttcrx_receive_with_columns(receiver, pointer, length, kind, number) }
+}
+
+/// The same with kind `SHORT`.
+pub fn receive_short_with_columns(
+    receiver: Receiver,
+    columns: &[u8],
+    number: u64,
+) -> ClockWithIndex {
+    let (pointer, length) = (columns.as_ptr(), columns.len());
+    // SAFETY: a shared slice is valid for reading its length, and unchanged meanwhile.
+    unsafe { sys::ttcrx_receive_short_with_columns(receiver, pointer, length, number) }
+}
+
+/// The same with kind `LONG`.
+pub fn receive_long_with_columns(
+    receiver: Receiver,
+    columns: &[u8],
+    number: u64,
+) -> ClockWithIndex {
+    let (pointer, length) = (columns.as_ptr(), columns.len());
+    // SAFETY: a shared slice is valid for reading its length, and unchanged meanwhile.
+    unsafe { sys::ttcrx_receive_long_with_columns(receiver, pointer, length, number) }
+}
+
+/// The clocks of a whole block with lent columns, on the receiver that is lent; `records` reads what
+/// it has written to the buffer. Refusals 2, 27, 28, 15, 16 and 1.
+pub fn run_block_with_columns(
+    receiver: &mut Receiver,
+    columns: &[u8],
+    block: &[u8],
+    buffer: &mut [u32],
+) -> BlockWithIndex {
+    // SAFETY: a shared slice is valid for reading its length, and unchanged meanwhile; an exclusive
+    // reference or slice is valid for its length, and nobody else's meanwhile; so nothing that is
+    // lent for writing overlaps anything else.
+    unsafe {
+        sys::ttcrx_run_block_with_columns(
+            receiver,
+            columns.as_ptr(),
+            columns.len(),
+            block.as_ptr(),
+            block.len(),
+            buffer.as_mut_ptr(),
+            buffer.len(),
+        )
+    }
 }
 
 /// A report of stored lines at the beginning of its input.

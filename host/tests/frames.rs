@@ -2,7 +2,7 @@
 //! document 01, and Q-8 of document 02, say of flipped bits.
 
 use std::iter;
-use ttcrx_host::model::Kind;
+use ttcrx_host::model::{Columns, Kind};
 use ttcrx_host::sys::*;
 use ttcrx_host::testing::compare::Both;
 use ttcrx_host::testing::convert::Answer;
@@ -11,30 +11,8 @@ use ttcrx_host::testing::example;
 use ttcrx_host::testing::frame::{decode, Frame};
 use ttcrx_host::testing::library::Library;
 use ttcrx_host::testing::random::Random;
+use ttcrx_host::testing::said::{dropped, said, short_numbers, FIXED};
 use ttcrx_host::testing::traffic::{edge_numbers, storm};
-
-const FIXED: u32 = 1 << 16;
-
-/// What the papers say of a frame with this word, without the model, if the bit at this place was
-/// corrected; none with 0.
-fn said(kind: Kind, word: u32, place: u8) -> Decoded {
-    let [data, sub_address, _, _] = word.to_le_bytes();
-    let without_fixed_bit = Decoded { word, ..dropped(VERDICT_FIXED_BIT) };
-    let fields = match kind {
-        Kind::Short => Fields { data, ..Fields::default() },
-        Kind::Long if word & FIXED == 0 => return without_fixed_bit,
-        Kind::Long => {
-            Fields { address: (word >> 18) as u16, e: (word >> 17 & 1) as u8, sub_address, data }
-        }
-    };
-    let corrected = (place != 0).into();
-    Decoded { corrected, place, word, fields, ..Decoded::default() }
-}
-
-/// A verdict without a word.
-fn dropped(verdict: u8) -> Decoded {
-    Decoded { verdict, ..Decoded::default() }
-}
 
 /// Words at the edges and so many random ones, with the fixed bit as it comes.
 fn words(seed: u64, count: u64) -> Vec<u32> {
@@ -123,34 +101,12 @@ fn encode_long_random() {
     both.at_least(500_000);
 }
 
-/// What the papers say of every short number under 2^14, without a decoder. All broadcasts are
-/// listed, clean and with each single flip. Of the numbers that are none of these, with stop bit 1,
-/// those that are an even number of flips away from the broadcast of 00 get 8, the others 11.
-fn short_numbers() -> Vec<Decoded> {
-    let zero = Frame::short(0);
-    let rest = |number: u64| match (number & 1, (number ^ zero.number).count_ones() % 2) {
-        (0, _) => dropped(VERDICT_STOP_BIT),
-        (_, 0) => dropped(VERDICT_EVEN_SYNDROME),
-        _ => dropped(VERDICT_ODD_SYNDROME),
-    };
-    let mut numbers: Vec<Decoded> = (0..1 << 14).map(rest).collect();
-    for data in 0..=255 {
-        let frame = Frame::short(data);
-        numbers[frame.number as usize] = said(Kind::Short, data.into(), 0);
-        for place in frame.places() {
-            let flipped = frame.flipped(frame.at(place));
-            numbers[flipped.number as usize] = said(Kind::Short, data.into(), place);
-        }
-    }
-    numbers
-}
-
 /// Of the 32 syndromes one is clean, 13 belong to a bit, 15 others have an even number of ones; 26,
 /// 28 and 31 have an odd number and belong to no bit.
 #[test]
 fn decode_short_numbers() {
     let both = Both::of("decode_short of all 16 bit numbers, and of far ones");
-    let expected = short_numbers();
+    let expected = short_numbers(Columns::own());
     let mut found = [[0; 2]; 12];
     for number in 0..=0xFFFF {
         let answer = both.decode_short(number);

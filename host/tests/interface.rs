@@ -3,6 +3,7 @@
 
 use std::collections::BTreeMap;
 use ttcrx_host::model::{block, Fields};
+use ttcrx_host::testing::columns::OWN;
 use ttcrx_host::testing::example;
 use ttcrx_host::testing::files::text;
 use ttcrx_host::testing::frame::Frame;
@@ -58,7 +59,7 @@ fn functions(path: &str, before: &str) -> Names {
 #[test]
 fn constants_are_those_of_the_header() {
     let header = defined();
-    assert_eq!(header.len(), 18 + 12 + 1 + 2 + 2 + 2 + 4 + 4 + 2 + 2 + 1);
+    assert_eq!(header.len(), 20 + 12 + 1 + 2 + 2 + 2 + 2 + 4 + 4 + 2 + 2 + 1);
     assert_eq!(constants("src/sys.rs"), header);
 }
 
@@ -82,10 +83,22 @@ fn constants_of_the_source_are_those_of_the_header() {
 #[test]
 fn functions_are_those_of_the_header() {
     let header = functions("../include/ttcrx.h", " ttcrx_");
-    assert_eq!(header.len(), 23);
+    assert_eq!(header.len(), 23 + 10);
     assert_eq!(functions("src/sys.rs", "pub fn ttcrx_"), header);
     let marked = functions("../crates/ttcrx/src/lib.rt", "pub extern \"C\" fn ttcrx_");
     assert_eq!(marked, header);
+}
+
+/// The library's own columns, as the header lists them: numbers with commas after them, in the three
+/// lines of a comment that have nothing else.
+#[test]
+fn own_columns_are_those_of_the_header() {
+    let header = text("../include/ttcrx.h");
+    let lines = header.lines().filter_map(|line| line.strip_prefix(" *     ")?.strip_suffix(','));
+    let numbers = lines.flat_map(|line| line.split(", ")).map(|number| number.parse());
+    assert_eq!(numbers.collect::<Result<Vec<u8>, _>>(), Ok(OWN.to_vec()));
+    assert_eq!((OWN.len(), ttcrx::COLUMNS_SHORT), (ttcrx::COLUMNS, 8));
+    assert_eq!(ttcrx::check_columns(&OWN).refusal, ttcrx::ACCEPTED);
 }
 
 fn fresh() -> Receiver {
@@ -120,6 +133,8 @@ fn refusals() -> Vec<(&'static str, u8)> {
         ("REFUSED_BLOCK_LENGTH", idle_block(clocks + 1, numbers + 5).refusal),
         ("REFUSED_RECORD_BUFFER", idle_block(clocks, numbers - 1).refusal),
         ("REFUSED_NO_SETTING", ttcrx::write(fresh(), 1, 240).refusal),
+        ("REFUSED_COLUMNS", ttcrx::check_columns(&OWN[1..]).refusal),
+        ("REFUSED_COLUMN", ttcrx::check_columns(&[7; ttcrx::COLUMNS]).refusal),
     ]
 }
 
@@ -193,8 +208,10 @@ fn codes() -> Vec<(&'static str, u32)> {
 }
 
 /// The constants of the header that are no answer.
-const NO_ANSWERS: [&str; 7] = [
+const NO_ANSWERS: [&str; 9] = [
     "VERSION",
+    "COLUMNS",
+    "COLUMNS_SHORT",
     "ADDRESS_ALL",
     "SUB_ADDRESS_RESET",
     "BLOCK_CLOCKS",

@@ -337,16 +337,6 @@ fn numbers_that_are_no_frames() {
     both.at_least(2 * 4 * 20_000);
 }
 
-/// A state that is garbage, or well formed with some of it.
-fn any_state(random: &mut Random) -> Receiver {
-    let garbage = states::garbage(random);
-    let good = states::well_formed(random);
-    match random.once_in(4) {
-        true => garbage,
-        false => states::mixed(random, good, &garbage),
-    }
-}
-
 /// Refusal 2 comes first: the number of a state that is not well formed is not looked at.
 #[test]
 fn ill_formed_states() {
@@ -354,7 +344,7 @@ fn ill_formed_states() {
     let mut random = Random::new(304);
     let mut seen = Tally::of([("long", 0, 1), ("refusal (0, 2, 12)", 0, 2)]);
     for _ in 0..300_000 {
-        let state = any_state(&mut random);
+        let state = states::any(&mut random);
         let frame = any_frame(&mut random, &EVERY_KIND);
         let number = match random.once_in(3) {
             true => random.any_length(),
@@ -380,7 +370,7 @@ fn every_kind() {
     let mut random = Random::new(305);
     let mut seen = Tally::of([("kind", 0, 255), ("well formed", 0, 1), ("a frame", 0, 1)]);
     for kind in (0..=255).flat_map(|kind| [kind; 200]) {
-        let states = [states::well_formed(&mut random), any_state(&mut random)];
+        let states = [states::well_formed(&mut random), states::any(&mut random)];
         let (short, long) = (random.below(1 << 14), 1 << 40 | random.below(1 << 40));
         for number in [short, long, random.any_length(), 0, u64::MAX] {
             for state in states {

@@ -1,8 +1,10 @@
 //! Calls of a receiver's clock, reads and writes, and random lists of them.
 
+use super::convert;
 use super::frame::Frame;
 use super::library::Library;
 use super::random::Random;
+use crate::model::{self, Columns, Refusal};
 use crate::sys::{Outputs, Receiver};
 
 /// A call with its arguments, all but the state.
@@ -72,6 +74,23 @@ pub fn call(library: &dyn Library, state: &mut Receiver, call: Call) -> Shown {
             shown.refusal = answer.refusal;
         }
     }
+    shown
+}
+
+/// What the model's receiver answers to a call, beside its state, if clocks are lent these columns.
+pub fn expected(receiver: &mut model::Receiver, columns: &Columns, call: Call) -> Shown {
+    let mut shown = Shown::default();
+    let done = match call {
+        Call::Clock { trigger, data } if call.is_clock() => {
+            let outputs = receiver.clock_with(columns, trigger == 1, data == 1);
+            shown.outputs = convert::outputs(outputs);
+            Ok(())
+        }
+        Call::Clock { .. } => Err(Refusal::Bit),
+        Call::Read { number } => receiver.read(number).map(|byte| shown.byte = byte),
+        Call::Write { number, value } => receiver.write(number, value),
+    };
+    shown.refusal = done.map_or_else(|refusal| refusal as u8, |()| 0);
     shown
 }
 

@@ -1,7 +1,8 @@
 //! Compares answers and counts the comparisons, so that no loop is empty unseen; and the library
 //! beside the model, function by function.
 
-use super::library::{plain_functions, Library, Model, Proved};
+use super::library::{column_functions, other_functions, plain_functions};
+use super::library::{Library, Model, Proved};
 use crate::sys::*;
 use std::cell::Cell;
 use std::fmt::Debug;
@@ -115,6 +116,25 @@ impl<'a> Both<'a> {
         self.cases.same_buffers(input, buffer, &expected);
         answer
     }
+
+    /// One call of a function that is lent a receiver and a buffer. Answers and states are compared,
+    /// then the buffers.
+    #[track_caller]
+    fn lend_receiver<I: Copy + Debug, A: Copy + PartialEq + Debug>(
+        &self,
+        input: I,
+        receiver: &mut Receiver,
+        buffer: &mut [u32],
+        call: impl Fn(&dyn Library, &mut Receiver, &mut [u32]) -> A,
+    ) -> A {
+        let start = *receiver;
+        let (answer, after) = self.lend(input, buffer, |library, buffer| {
+            let mut lent = start;
+            (call(library, &mut lent, buffer), lent)
+        });
+        *receiver = after;
+        answer
+    }
 }
 
 /// A function that is lent nothing for writing, of both.
@@ -144,17 +164,26 @@ impl Library for Both<'_> {
         })
     }
 
-    /// Answers and states are compared, then the buffers.
     #[track_caller]
     fn run_block(&self, receiver: &mut Receiver, block: &[u8], buffer: &mut [u32]) -> BlockOutcome {
-        let start = *receiver;
-        let input = (start, block, buffer.len());
-        let (answer, after) = self.lend(input, buffer, |library, buffer| {
-            let mut lent = start;
-            (library.run_block(&mut lent, block, buffer), lent)
-        });
-        *receiver = after;
-        answer
+        let input = (*receiver, block, buffer.len());
+        self.lend_receiver(input, receiver, buffer, |library, lent, buffer| {
+            library.run_block(lent, block, buffer)
+        })
+    }
+
+    #[track_caller]
+    fn run_block_with_columns(
+        &self,
+        receiver: &mut Receiver,
+        columns: &[u8],
+        block: &[u8],
+        buffer: &mut [u32],
+    ) -> BlockWithIndex {
+        let input = (*receiver, columns, block, buffer.len());
+        self.lend_receiver(input, receiver, buffer, |library, lent, buffer| {
+            library.run_block_with_columns(lent, columns, block, buffer)
+        })
     }
 
     #[track_caller]

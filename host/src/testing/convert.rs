@@ -1,7 +1,7 @@
 //! The model's types in the structs of ttcrx.h, so that whole answers can be compared, and back.
 
 use crate::model::report::{Done, Part};
-use crate::model::{self, Refusal, State};
+use crate::model::{self, BadColumns, Columns, Refusal, State};
 use crate::sys::*;
 
 /// An answer that begins with a number of refusal.
@@ -22,13 +22,75 @@ macro_rules! answers {
 
 answers! {
     Encoded Decoded Line Written Byte Setting FreshAnswer ClockAnswer ReadAnswer WriteAnswer
-    BlockOutcome
+    BlockOutcome ColumnsAnswer
+}
+
+/// A number of refusal, and the index that is told with it: 0 but with 28.
+#[derive(Clone, Copy, Debug)]
+pub struct Refused {
+    pub refusal: u8,
+    pub index: u8,
+}
+
+impl From<Refusal> for Refused {
+    fn from(refusal: Refusal) -> Refused {
+        Refused { refusal: refusal as u8, index: 0 }
+    }
+}
+
+impl From<BadColumns> for Refused {
+    fn from(bad: BadColumns) -> Refused {
+        Refused { refusal: bad.refusal as u8, index: bad.index }
+    }
+}
+
+/// An answer with the index of a bad column beside it.
+pub trait Indexed {
+    /// The answer of the function without columns.
+    type Plain;
+
+    fn of(answer: Self::Plain, index: u8) -> Self;
+}
+
+macro_rules! indexed {
+    ($($name:ident of $plain:ident)*) => {$(
+        impl Indexed for $name {
+            type Plain = $plain;
+
+            #[inline]
+            fn of(answer: $plain, index: u8) -> $name {
+                $name { answer, index }
+            }
+        }
+    )*};
+}
+
+indexed! {
+    EncodedWithIndex of Encoded
+    DecodedWithIndex of Decoded
+    ClockWithIndex of ClockAnswer
+    BlockWithIndex of BlockOutcome
 }
 
 /// The answer of ttcrx.h to a call that the model has answered.
 #[inline]
 pub fn answer<T, A: Answer>(result: Result<T, Refusal>, accepted: impl FnOnce(T) -> A) -> A {
     result.map_or_else(|refusal| A::refused(refusal as u8), accepted)
+}
+
+/// The answer of a function with columns: that of the function without, with index 0; or a refusal.
+#[inline]
+pub fn answer_with_index<T, A: Indexed>(
+    result: Result<T, Refused>,
+    accepted: impl FnOnce(T) -> A::Plain,
+) -> A
+where
+    A::Plain: Answer,
+{
+    match result {
+        Ok(done) => A::of(accepted(done), 0),
+        Err(Refused { refusal, index }) => A::of(A::Plain::refused(refusal), index),
+    }
 }
 
 /// A refused clock: the state as given, the outputs 0.
@@ -82,6 +144,11 @@ pub fn outputs(outputs: model::Outputs) -> Outputs {
         place: fate.place(),
         word: fate.word,
     }
+}
+
+/// The model's columns of a good table.
+pub fn columns(table: &[u8]) -> Columns {
+    Columns::lent(table).expect("good columns")
 }
 
 /// The model's receiver of a state. Refusal 2.

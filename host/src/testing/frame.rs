@@ -1,7 +1,7 @@
 //! Frames as bits to be sent, the one way to send them, and the one to decode them.
 
 use super::library::Library;
-use crate::model::{self, block, Fields, Kind};
+use crate::model::{self, block, Columns, Fields, Kind};
 use crate::sys::{ClockAnswer, Decoded, Held, Receiver};
 use std::ops::RangeInclusive;
 
@@ -28,26 +28,37 @@ impl Frame {
 
     /// The broadcast of a byte.
     pub fn short(data: u8) -> Frame {
-        Frame::of(Kind::Short, model::encode_short(data))
+        Frame::encoded(Kind::Short, data.into())
     }
 
     /// The long frame of these fields, which are in range.
     pub fn long(fields: Fields) -> Frame {
-        let number = model::encode_long(fields).expect("in range");
+        Frame::long_with(Columns::own(), fields)
+    }
+
+    /// The same with these columns.
+    pub fn long_with(columns: &Columns, fields: Fields) -> Frame {
+        let number = model::encode_long_with(columns, fields).expect("in range");
         Frame::of(Kind::Long, number)
     }
 
     /// The long frame of any 32 word bits, the fixed bit as it is in them.
     pub fn word(word: u32) -> Frame {
-        Frame::of(Kind::Long, model::encode_word(word))
+        Frame::encoded(Kind::Long, word)
     }
 
     /// The frame of this kind with these data or word bits.
     pub fn encoded(kind: Kind, data: u32) -> Frame {
-        match kind {
-            Kind::Short => Frame::short(data as u8),
-            Kind::Long => Frame::word(data),
-        }
+        Frame::encoded_with(Columns::own(), kind, data)
+    }
+
+    /// The same with these columns.
+    pub fn encoded_with(columns: &Columns, kind: Kind, data: u32) -> Frame {
+        let number = match kind {
+            Kind::Short => model::encode_short_with(columns, data as u8),
+            Kind::Long => model::encode_word_with(columns, data),
+        };
+        Frame::of(kind, number)
     }
 
     /// The data or word bits of a whole frame as they are in it.

@@ -1,7 +1,7 @@
 //! What has the functions of ttcrx.h: the proved library, and the model.
 
-use super::convert::{self, answer};
-use crate::model::{self, block, Fields, Kind, Refusal};
+use super::convert::{self, answer, answer_with_index, Refused};
+use crate::model::{self, block, Columns, Fields, Kind, Refusal};
 use crate::sys::*;
 use crate::ttcrx;
 
@@ -65,9 +65,9 @@ pub trait Library {
 
     #[inline]
     fn clock(&self, receiver: Receiver, trigger: u8, data: u8) -> ClockAnswer {
-        clocked(receiver, |model| match trigger > 1 || data > 1 {
-            true => Err(Refusal::Bit),
-            false => Ok(model.clock(trigger == 1, data == 1)),
+        clocked(receiver, |model| {
+            bits_in_range(trigger, data)?;
+            Ok(model.clock(trigger == 1, data == 1))
         })
     }
 
@@ -107,6 +107,105 @@ pub trait Library {
         block::filled_length(buffer_length, records)
     }
 
+    fn check_columns(&self, columns: &[u8]) -> ColumnsAnswer {
+        match Columns::lent(columns) {
+            Ok(_) => ColumnsAnswer { refusal: 0, index: 0 },
+            Err(bad) => ColumnsAnswer { refusal: bad.refusal as u8, index: bad.index },
+        }
+    }
+
+    fn encode_short_with_columns(&self, columns: &[u8], data: u8) -> EncodedWithIndex {
+        let frame = with_columns(columns, |columns| Ok(model::encode_short_with(columns, data)));
+        answer_with_index(frame, |number| Encoded { refusal: 0, number })
+    }
+
+    fn encode_long_with_columns(
+        &self,
+        columns: &[u8],
+        address: u16,
+        e: u8,
+        sub_address: u8,
+        data: u8,
+    ) -> EncodedWithIndex {
+        let fields = Fields { address, e, sub_address, data };
+        let frame = with_columns(columns, |columns| model::encode_long_with(columns, fields));
+        answer_with_index(frame, |number| Encoded { refusal: 0, number })
+    }
+
+    fn decode_short_with_columns(&self, columns: &[u8], number: u64) -> DecodedWithIndex {
+        let said = with_columns(columns, |columns| model::decode_short_with(columns, number));
+        answer_with_index(said, convert::decoded)
+    }
+
+    fn decode_long_with_columns(&self, columns: &[u8], number: u64) -> DecodedWithIndex {
+        let said = with_columns(columns, |columns| model::decode_long_with(columns, number));
+        answer_with_index(said, convert::decoded)
+    }
+
+    #[inline]
+    fn clock_with_columns(
+        &self,
+        receiver: Receiver,
+        columns: &[u8],
+        trigger: u8,
+        data: u8,
+    ) -> ClockWithIndex {
+        clocked_with_columns(receiver, columns, |model, columns| {
+            bits_in_range(trigger, data)?;
+            Ok(model.clock_with(columns, trigger == 1, data == 1))
+        })
+    }
+
+    fn receive_with_columns(
+        &self,
+        receiver: Receiver,
+        columns: &[u8],
+        kind: u8,
+        number: u64,
+    ) -> ClockWithIndex {
+        clocked_with_columns(receiver, columns, |model, columns| {
+            model.receive_with(columns, kind, number)
+        })
+    }
+
+    fn receive_short_with_columns(
+        &self,
+        receiver: Receiver,
+        columns: &[u8],
+        number: u64,
+    ) -> ClockWithIndex {
+        clocked_with_columns(receiver, columns, |model, columns| {
+            model.receive_with(columns, SHORT, number)
+        })
+    }
+
+    fn receive_long_with_columns(
+        &self,
+        receiver: Receiver,
+        columns: &[u8],
+        number: u64,
+    ) -> ClockWithIndex {
+        clocked_with_columns(receiver, columns, |model, columns| {
+            model.receive_with(columns, LONG, number)
+        })
+    }
+
+    fn run_block_with_columns(
+        &self,
+        receiver: &mut Receiver,
+        columns: &[u8],
+        block: &[u8],
+        buffer: &mut [u32],
+    ) -> BlockWithIndex {
+        let done = changed_with_columns(*receiver, columns, |model, columns| {
+            block::run_with(columns, model, block, buffer)
+        });
+        answer_with_index(done, |(after, records)| {
+            *receiver = after;
+            BlockOutcome { refusal: 0, records }
+        })
+    }
+
     fn report_start(&self) -> Report {
         convert::report(&model::report::Report::start())
     }
@@ -126,6 +225,15 @@ pub trait Library {
 
 fn encoded(frame: Result<u64, Refusal>) -> Encoded {
     answer(frame, |number| Encoded { refusal: 0, number })
+}
+
+/// Refusal 1 of a clock.
+#[inline]
+fn bits_in_range(trigger: u8, data: u8) -> Result<(), Refusal> {
+    match trigger > 1 || data > 1 {
+        true => Err(Refusal::Bit),
+        false => Ok(()),
+    }
 }
 
 fn written(kind: Kind, number: u64, buffer: &mut [u8]) -> Written {
@@ -158,6 +266,46 @@ fn clocked(
     }
 }
 
+/// What the model gives with lent columns. Refusals 27 and 28 come before those of the call.
+#[inline]
+fn with_columns<T>(
+    numbers: &[u8],
+    call: impl FnOnce(&Columns) -> Result<T, Refusal>,
+) -> Result<T, Refused> {
+    let columns = Columns::lent(numbers)?;
+    Ok(call(&columns)?)
+}
+
+/// `changed` with lent columns. Refusal 2 comes first, then 27 and 28.
+#[inline]
+fn changed_with_columns<T>(
+    state: Receiver,
+    numbers: &[u8],
+    change: impl FnOnce(&mut model::Receiver, &Columns) -> Result<T, Refusal>,
+) -> Result<(Receiver, T), Refused> {
+    let mut receiver = convert::receiver(&state)?;
+    let answer = with_columns(numbers, |columns| change(&mut receiver, columns))?;
+    Ok((convert::state(&receiver), answer))
+}
+
+/// `clocked` with lent columns.
+#[inline]
+fn clocked_with_columns(
+    state: Receiver,
+    numbers: &[u8],
+    clock: impl FnOnce(&mut model::Receiver, &Columns) -> Result<model::Outputs, Refusal>,
+) -> ClockWithIndex {
+    match changed_with_columns(state, numbers, clock) {
+        Ok((receiver, shown)) => {
+            let outputs = convert::outputs(shown);
+            ClockWithIndex { answer: ClockAnswer { refusal: 0, receiver, outputs }, index: 0 }
+        }
+        Err(Refused { refusal, index }) => {
+            ClockWithIndex { answer: convert::refused_clock(refusal, state), index }
+        }
+    }
+}
+
 /// The independent model.
 pub struct Model;
 
@@ -166,28 +314,71 @@ impl Library for Model {}
 /// Makes the functions of ttcrx.h that are lent nothing for writing, each by this macro.
 macro_rules! plain_functions {
     ($make:ident) => {
-        $make! { fn version() -> u32 }
+        other_functions! { $make }
+        column_functions! { $make }
         $make! { fn encode_short(data: u8) -> Encoded }
         $make! { fn encode_long(address: u16, e: u8, sub_address: u8, data: u8) -> Encoded }
         $make! { fn decode_short(number: u64) -> Decoded }
         $make! { fn decode_long(number: u64) -> Decoded }
+        $make! { fn clock(receiver: Receiver, trigger: u8, data: u8) -> ClockAnswer }
+        $make! { fn receive(receiver: Receiver, kind: u8, number: u64) -> ClockAnswer }
+        $make! { fn receive_short(receiver: Receiver, number: u64) -> ClockAnswer }
+        $make! { fn receive_long(receiver: Receiver, number: u64) -> ClockAnswer }
+    };
+}
+
+/// Those of them that use no columns.
+macro_rules! other_functions {
+    ($make:ident) => {
+        $make! { fn version() -> u32 }
         $make! { fn read_line(characters: &[u8]) -> Line }
         $make! { fn delay_byte(setting: u8) -> Byte }
         $make! { fn delay_setting(byte: u8) -> Setting }
         $make! { fn well_formed(receiver: Receiver) -> u8 }
         $make! { fn fresh(id: u16, i2c: u8) -> FreshAnswer }
-        $make! { fn clock(receiver: Receiver, trigger: u8, data: u8) -> ClockAnswer }
         $make! { fn read(receiver: Receiver, number: u8) -> ReadAnswer }
         $make! { fn write(receiver: Receiver, number: u8, value: u8) -> WriteAnswer }
-        $make! { fn receive(receiver: Receiver, kind: u8, number: u64) -> ClockAnswer }
-        $make! { fn receive_short(receiver: Receiver, number: u64) -> ClockAnswer }
-        $make! { fn receive_long(receiver: Receiver, number: u64) -> ClockAnswer }
         $make! { fn filled_length(buffer_length: usize, records: usize) -> usize }
         $make! { fn report_start() -> Report }
     };
 }
 
-pub(super) use plain_functions;
+/// Those of them that are lent columns.
+macro_rules! column_functions {
+    ($make:ident) => {
+        $make! { fn check_columns(columns: &[u8]) -> ColumnsAnswer }
+        $make! { fn encode_short_with_columns(columns: &[u8], data: u8) -> EncodedWithIndex }
+        $make! {
+            fn encode_long_with_columns(
+                columns: &[u8], address: u16, e: u8, sub_address: u8, data: u8
+            ) -> EncodedWithIndex
+        }
+        $make! { fn decode_short_with_columns(columns: &[u8], number: u64) -> DecodedWithIndex }
+        $make! { fn decode_long_with_columns(columns: &[u8], number: u64) -> DecodedWithIndex }
+        $make! {
+            fn clock_with_columns(
+                receiver: Receiver, columns: &[u8], trigger: u8, data: u8
+            ) -> ClockWithIndex
+        }
+        $make! {
+            fn receive_with_columns(
+                receiver: Receiver, columns: &[u8], kind: u8, number: u64
+            ) -> ClockWithIndex
+        }
+        $make! {
+            fn receive_short_with_columns(
+                receiver: Receiver, columns: &[u8], number: u64
+            ) -> ClockWithIndex
+        }
+        $make! {
+            fn receive_long_with_columns(
+                receiver: Receiver, columns: &[u8], number: u64
+            ) -> ClockWithIndex
+        }
+    };
+}
+
+pub(crate) use {column_functions, other_functions, plain_functions};
 
 /// A function of the proved library.
 macro_rules! proved {
@@ -206,6 +397,11 @@ impl Library for Proved {
     proved! { fn write_short(number: u64, buffer: &mut [u8]) -> Written }
     proved! { fn write_long(number: u64, buffer: &mut [u8]) -> Written }
     proved! { fn run_block(lent: &mut Receiver, block: &[u8], buffer: &mut [u32]) -> BlockOutcome }
+    proved! {
+        fn run_block_with_columns(
+            lent: &mut Receiver, columns: &[u8], block: &[u8], buffer: &mut [u32]
+        ) -> BlockWithIndex
+    }
     proved! { fn report_input(report: Report, input: &[u8], buffer: &mut [u8]) -> Reported }
     proved! { fn report_end(report: Report, buffer: &mut [u8]) -> Reported }
 }

@@ -2,6 +2,7 @@
 //! and lines, comparison, coverage, and the examples of document 01.
 
 pub mod calls;
+pub mod columns;
 pub mod compare;
 pub mod convert;
 pub mod coverage;
@@ -9,12 +10,14 @@ pub mod example;
 pub mod files;
 pub mod flips;
 pub mod frame;
+pub mod lending;
 pub mod lent;
 pub mod library;
 pub mod lines;
 pub mod null;
 pub mod printed;
 pub mod random;
+pub mod said;
 pub mod states;
 pub mod traffic;
 pub mod verdict;

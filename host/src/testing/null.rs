@@ -1,6 +1,7 @@
 //! Calls of the library with null pointers: whatever is empty may be lent as one.
 
-use crate::sys::{self, BlockOutcome, Line, Receiver, Report, Reported, Written};
+use crate::sys::{self, BlockOutcome, BlockWithIndex, ColumnsAnswer, Line, Receiver, Report};
+use crate::sys::{Reported, Written};
 use core::ptr::{null, null_mut};
 
 pub fn read_line() -> Line {
@@ -34,6 +35,26 @@ pub fn run_block_to_null(receiver: &mut Receiver, block: &[u8]) -> BlockOutcome 
 pub fn run_no_block_to_null(receiver: &mut Receiver) -> BlockOutcome {
     // SAFETY: null is allowed with length 0; the receiver is exclusive.
     unsafe { sys::ttcrx_run_block(receiver, null(), 0, null_mut(), 0) }
+}
+
+pub fn check_columns() -> ColumnsAnswer {
+    // SAFETY: null is allowed with length 0.
+    unsafe { sys::ttcrx_check_columns(null(), 0) }
+}
+
+/// Columns, block and buffer are null.
+pub fn run_no_block_without_columns(receiver: &mut Receiver) -> BlockWithIndex {
+    // SAFETY: null is allowed with length 0; the receiver is exclusive.
+    unsafe { sys::ttcrx_run_block_with_columns(receiver, null(), 0, null(), 0, null_mut(), 0) }
+}
+
+/// Block and buffer are null.
+pub fn run_no_block_with_columns(receiver: &mut Receiver, columns: &[u8]) -> BlockWithIndex {
+    let (pointer, length) = (columns.as_ptr(), columns.len());
+    // SAFETY: null is allowed with length 0; the receiver is exclusive, the columns a shared slice.
+    unsafe {
+        sys::ttcrx_run_block_with_columns(receiver, pointer, length, null(), 0, null_mut(), 0)
+    }
 }
 
 /// The input is null.

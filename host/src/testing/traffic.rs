@@ -5,7 +5,7 @@ use super::calls::fine_delay;
 use super::coverage::{assert_seen, Tally};
 use super::frame::{Frame, RUN};
 use super::random::Random;
-use crate::model::{block, Fields};
+use crate::model::{block, Columns, Fields, Kind};
 
 /// How rare the frames are that RESET and that clear counters: once in so many.
 #[derive(Clone, Copy, Debug)]
@@ -65,8 +65,14 @@ fn damage(random: &mut Random) -> Damage {
 
 /// A broadcast.
 pub fn short(random: &mut Random, habit: Habit) -> Frame {
+    short_with(random, Columns::own(), habit)
+}
+
+/// The same with these columns.
+fn short_with(random: &mut Random, columns: &Columns, habit: Habit) -> Frame {
     let clears = if random.once_in(habit.clear) { 3 } else { 0 };
-    Frame::short(random.byte() & (0xFC | clears))
+    let data = random.byte() & (0xFC | clears);
+    Frame::encoded_with(columns, Kind::Short, data.into())
 }
 
 /// Address 0, this ID, and foreign ones: neighbours, one bit away, any.
@@ -108,12 +114,12 @@ pub fn fields(random: &mut Random, id: u16, habit: Habit) -> Fields {
     }
 }
 
-/// A long frame. The fixed bit is 0 once in 8 times.
-fn long(random: &mut Random, id: u16, habit: Habit) -> Frame {
-    let right = Frame::long(fields(random, id, habit));
-    let without_fixed_bit = (right.number >> 8) as u32 & !(1 << 16);
+/// A long frame with these columns. The fixed bit is 0 once in 8 times.
+fn long_with(random: &mut Random, columns: &Columns, id: u16, habit: Habit) -> Frame {
+    let right = Frame::long_with(columns, fields(random, id, habit));
+    let without_fixed_bit = right.data() & !(1 << 16);
     match random.once_in(8) {
-        true => Frame::word(without_fixed_bit),
+        true => Frame::encoded_with(columns, Kind::Long, without_fixed_bit),
         false => right,
     }
 }
@@ -148,11 +154,11 @@ fn damaged(random: &mut Random, frame: Frame, damage: Damage) -> Frame {
     })
 }
 
-/// A frame as it arrives, and what happened to it.
-fn arriving(random: &mut Random, id: u16, habit: Habit) -> (Frame, Damage) {
+/// A frame with these columns as it arrives, and what happened to it.
+fn arriving(random: &mut Random, columns: &Columns, id: u16, habit: Habit) -> (Frame, Damage) {
     let frame = match random.once_in(3) {
-        true => short(random, habit),
-        false => long(random, id, habit),
+        true => short_with(random, columns, habit),
+        false => long_with(random, columns, id, habit),
     };
     let damage = damage(random);
     (damaged(random, frame, damage), damage)
@@ -160,8 +166,13 @@ fn arriving(random: &mut Random, id: u16, habit: Habit) -> (Frame, Damage) {
 
 /// A frame whose start and format are right, of any fate at the receiver of this ID.
 pub fn frame(random: &mut Random, id: u16) -> Frame {
+    frame_with(random, Columns::own(), id)
+}
+
+/// The same with these columns.
+pub fn frame_with(random: &mut Random, columns: &Columns, id: u16) -> Frame {
     loop {
-        let (frame, _) = arriving(random, id, LIVELY);
+        let (frame, _) = arriving(random, columns, id, LIVELY);
         if frame.front(2).number == frame.kind().number().into() {
             return frame;
         }
@@ -189,6 +200,8 @@ const RUN_OF_ONES: &str = "run of ones (41, 40, fewer, fewer and a 0, more)";
 /// The bits of both channels, clock by clock.
 pub struct Traffic {
     random: Random,
+    /// Those of the frames.
+    columns: Columns,
     id: u16,
     habit: Habit,
     pace: u8,
@@ -210,6 +223,7 @@ impl Traffic {
     pub fn new(seed: u64) -> Traffic {
         Traffic {
             random: Random::new(seed),
+            columns: Columns::own().clone(),
             id: 1,
             habit: LIVELY,
             pace: 0,
@@ -234,6 +248,11 @@ impl Traffic {
         self.ones = 0;
         self.gap = 0;
         self.frame = NOTHING;
+    }
+
+    /// From now on frames are encoded with these columns.
+    pub fn encode_with(&mut self, columns: Columns) {
+        self.columns = columns;
     }
 
     /// The trigger bit and the data bit of the next clock.
@@ -289,7 +308,7 @@ impl Traffic {
             IDLE => 200 + self.random.below(1_800),
             _ => 100 + self.random.below(400),
         };
-        let (frame, damage) = arriving(&mut self.random, self.id, self.habit);
+        let (frame, damage) = arriving(&mut self.random, &self.columns, self.id, self.habit);
         self.frame = frame;
         self.slipped = damage.slips() || self.pace == NOISE;
         self.sent.seen([frame.kind().number(), damage as u8]);

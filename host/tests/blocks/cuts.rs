@@ -3,13 +3,14 @@
 
 use ttcrx_host::sys::{Outputs, Receiver, Record, BLOCK_CLOCKS, RECORD_NUMBERS};
 use ttcrx_host::testing::compare::Cases;
+use ttcrx_host::testing::library::{Library, Proved};
 use ttcrx_host::testing::random::Random;
 use ttcrx_host::testing::states;
 use ttcrx_host::testing::traffic::{Traffic, LIVELY};
 use ttcrx_host::ttcrx;
 
 /// What clocks leave and write: the state and the records.
-type Done = (Receiver, Vec<Record>);
+pub type Done = (Receiver, Vec<Record>);
 
 /// The pieces as blocks, one after the other; their places are counted through.
 #[track_caller]
@@ -36,11 +37,16 @@ fn code(outputs: &Outputs) -> u32 {
 }
 
 /// The clocks done singly by the library itself.
-pub fn singly(mut state: Receiver, block: &[u8]) -> Done {
+pub fn singly(state: Receiver, block: &[u8]) -> Done {
+    singly_by(&Proved, state, block)
+}
+
+/// The clocks done singly by this library.
+pub fn singly_by(library: &dyn Library, mut state: Receiver, block: &[u8]) -> Done {
     let mut all = Vec::new();
     for (place, bits) in (0..).zip(block) {
         let before = state.core.counters;
-        let answer = ttcrx::clock(state, bits & 1, bits >> 1);
+        let answer = library.clock(state, bits & 1, bits >> 1);
         let shown = &answer.outputs;
         if shown.trigger == 1 || shown.verdict != 0 {
             all.push(Record {

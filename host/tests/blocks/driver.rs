@@ -13,6 +13,10 @@ pub struct Driver {
     pub both: Both<'static>,
     pub random: Random,
     pub state: Receiver,
+    /// Lent with each block; if there are none, blocks are run without columns.
+    pub columns: Option<Vec<u8>>,
+    /// What the last block has told of a bad column.
+    pub index: u8,
 }
 
 /// So many clocks with any bits.
@@ -22,12 +26,30 @@ pub fn noise(random: &mut Random, length: usize) -> Vec<u8> {
 
 impl Driver {
     pub fn of(name: &'static str, seed: u64) -> Driver {
-        Driver { both: Both::of(name), random: Random::new(seed), state: Receiver::default() }
+        Driver {
+            both: Both::of(name),
+            random: Random::new(seed),
+            state: Receiver::default(),
+            columns: None,
+            index: 0,
+        }
     }
 
     /// With a fresh receiver of ID 5.
     pub fn fresh(name: &'static str, seed: u64) -> Driver {
         Driver { state: ttcrx::fresh(5, 5).receiver, ..Driver::of(name, seed) }
+    }
+
+    /// The block on the state, with or without columns.
+    #[track_caller]
+    fn run(&mut self, block: &[u8], buffer: &mut [u32]) -> BlockOutcome {
+        let (both, state) = (&self.both, &mut self.state);
+        let Some(columns) = &self.columns else {
+            return both.run_block(state, block, buffer);
+        };
+        let done = both.run_block_with_columns(state, columns, block, buffer);
+        self.index = done.index;
+        done.answer
     }
 
     /// One block on the state, with a buffer of so many random numbers. The numbers before the
@@ -37,7 +59,7 @@ impl Driver {
         let before = Lent::filled(room, || self.random.number() as u32);
         let mut buffer = before.clone();
         let start = self.state;
-        let answer = self.both.run_block(&mut self.state, block, buffer.part());
+        let answer = self.run(block, buffer.part());
         let (cases, input) = (&self.both.cases, (start, block, room));
         let end = RECORD_NUMBERS * answer.records;
         cases.same_buffers(input, buffer.before(), before.before());

@@ -1,7 +1,9 @@
 //! `ttcrx_run_block` and `ttcrx_filled_length`, Q-3 of document 02, against the model's single
-//! clocks: states, answers and whole buffers. are tried in blocks too.
+//! clocks: states, answers and whole buffers. are tried in blocks too, and blocks
+//! with the lent columns of Q-11, `ttcrx_run_block_with_columns`.
 
 mod by_hand;
+mod columns;
 mod cuts;
 mod driver;
 mod empty;

@@ -5,7 +5,8 @@ use crate::driver::{noise, Driver};
 use ttcrx_host::sys::*;
 use ttcrx_host::testing::coverage::{assert_seen, Tally};
 use ttcrx_host::testing::random::Random;
-use ttcrx_host::testing::states::{self, edges};
+use ttcrx_host::testing::states;
+use ttcrx_host::testing::states::edges::{self, Edge};
 use ttcrx_host::ttcrx;
 
 /// Room for the records of a full block.
@@ -136,10 +137,10 @@ fn ill_formed_states() {
 }
 
 /// What is wrong with a call, each a bit, and its refusal, in the order of the refusals.
-const STATE: u8 = 1;
-const LENGTH: u8 = 2;
-const ROOM: u8 = 4;
-const BYTE: u8 = 8;
+pub const STATE: u8 = 1;
+pub const LENGTH: u8 = 2;
+pub const ROOM: u8 = 4;
+pub const BYTE: u8 = 8;
 const FAULTS: [(u8, u8); 4] = [
     (STATE, REFUSED_STATE),
     (LENGTH, REFUSED_BLOCK_LENGTH),
@@ -166,7 +167,7 @@ fn room(random: &mut Random, faults: u8, length: usize) -> usize {
 }
 
 /// Puts a byte over 3 into the block. Gives its place: 0 first, 1 between, 2 last.
-fn spoil(random: &mut Random, block: &mut [u8]) -> u8 {
+pub fn spoil(random: &mut Random, block: &mut [u8]) -> u8 {
     let last = block.len() - 1;
     let any = random.below(block.len() as u64) as usize;
     let place = random.pick(&[0, any, block.len() / 2, last]);
@@ -178,28 +179,40 @@ fn spoil(random: &mut Random, block: &mut [u8]) -> u8 {
     }
 }
 
+/// States that are not well formed, each at an edge.
+pub fn ill_formed(random: &mut Random) -> Vec<Edge> {
+    let mut edges = edges::all(random);
+    edges.retain(|edge| !edge.good);
+    edges
+}
+
+/// A block with these faults, and its room; the driver's state becomes one that is right or not.
+pub fn faulty(driver: &mut Driver, ill_formed: &[Edge], faults: u8) -> (Vec<u8>, usize) {
+    let random = &mut driver.random;
+    let length = match faults & LENGTH != 0 {
+        true => random.pick(&LONG),
+        false => random.pick(&RIGHT),
+    };
+    let room = room(random, faults, length);
+    let block = noise(random, length);
+    driver.state = match faults & STATE != 0 {
+        true => random.pick(ill_formed).state,
+        false => states::well_formed(random),
+    };
+    (block, room)
+}
+
 #[test]
 fn every_combination() {
     let mut driver = Driver::of("every combination of faults", 430);
-    let mut ill_formed = edges::all(&mut driver.random);
-    ill_formed.retain(|edge| !edge.good);
+    let ill_formed = ill_formed(&mut driver.random);
     let mut seen = Tally::of([(COUNTED, 0, 15)]);
     let mut places = Tally::of([(PLACE, 0, 2), ("the only fault", 0, 1)]);
     for call in 0..16 * 400u32 {
         let faults = (call % 16) as u8;
-        let random = &mut driver.random;
-        let length = match faults & LENGTH != 0 {
-            true => random.pick(&LONG),
-            false => random.pick(&RIGHT),
-        };
-        let room = room(random, faults, length);
-        let mut block = noise(random, length);
-        driver.state = match faults & STATE != 0 {
-            true => random.pick(&ill_formed).state,
-            false => states::well_formed(random),
-        };
+        let (mut block, room) = faulty(&mut driver, &ill_formed, faults);
         if faults & BYTE != 0 {
-            let place = spoil(random, &mut block);
+            let place = spoil(&mut driver.random, &mut block);
             places.seen([place, (faults == BYTE).into()]);
         }
         let first = FAULTS.iter().find(|(fault, _)| faults & fault != 0);

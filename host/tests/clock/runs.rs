@@ -1,32 +1,15 @@
 //! Long runs of clocks, reads and writes. The library's state is fed back from its own last answer,
 //! the model keeps its own.
 
-use ttcrx_host::model::{self, Refusal};
+use ttcrx_host::model::{self, Columns};
 use ttcrx_host::sys::{ClockAnswer, Receiver, REFUSED_STATE};
-use ttcrx_host::testing::calls::{access, call, no_clock, refused_clock, Call, Shown};
+use ttcrx_host::testing::calls::{access, call, expected, no_clock, refused_clock, Call, Shown};
 use ttcrx_host::testing::compare::Both;
 use ttcrx_host::testing::coverage::{Accesses, Coverage, Quiet};
 use ttcrx_host::testing::library::{Library, Proved};
 use ttcrx_host::testing::random::Random;
 use ttcrx_host::testing::traffic::{Habit, Traffic, LIVELY, QUIET, RARE};
 use ttcrx_host::testing::{convert, states};
-
-/// What the model answers beside its state.
-fn expected(receiver: &mut model::Receiver, call: Call) -> Shown {
-    let mut shown = Shown::default();
-    let done = match call {
-        Call::Clock { trigger, data } if call.is_clock() => {
-            let outputs = receiver.clock(trigger == 1, data == 1);
-            shown.outputs = convert::outputs(outputs);
-            Ok(())
-        }
-        Call::Clock { .. } => Err(Refusal::Bit),
-        Call::Read { number } => receiver.read(number).map(|byte| shown.byte = byte),
-        Call::Write { number, value } => receiver.write(number, value),
-    };
-    shown.refusal = done.map_or_else(|refusal| refusal as u8, |()| 0);
-    shown
-}
 
 struct Runs {
     both: Both<'static>,
@@ -62,7 +45,8 @@ impl Runs {
     fn call(&mut self, state: &mut Receiver, receiver: &mut model::Receiver, made: Call) {
         let before = *state;
         let shown = call(&Proved, state, made);
-        let expected = (expected(receiver, made), convert::state(receiver));
+        let shown_there = expected(receiver, Columns::own(), made);
+        let expected = (shown_there, convert::state(receiver));
         self.both.same((before, made), (shown, *state), expected);
         self.accesses.call(&before, made, state);
         self.quiet.call(&before, made);

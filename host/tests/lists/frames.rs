@@ -5,49 +5,61 @@ use crate::runner::{Run, Runner};
 use crate::sent::Sent;
 use crate::tallies::Tallies;
 use std::iter;
-use ttcrx_host::model::Fields;
+use ttcrx_host::model::{Columns, Fields};
 use ttcrx_host::sys::{Held, Outputs, Receiver};
 use ttcrx_host::sys::{VERDICT_EVEN_SYNDROME, VERDICT_NO_SETTING, VERDICT_RESET};
 use ttcrx_host::testing::calls::{carrying, Call, Mix};
+use ttcrx_host::testing::columns::{Table, Tables, OWN};
+use ttcrx_host::testing::convert::columns;
+use ttcrx_host::testing::coverage::Accesses;
 use ttcrx_host::testing::frame::Frame;
 use ttcrx_host::testing::library::Library;
 use ttcrx_host::testing::random::Random;
 use ttcrx_host::testing::states;
 use ttcrx_host::testing::traffic::protected;
 
-/// A list, here with channel B at 1 on every clock, and the frame that it is to carry.
+/// A list, here with channel B at 1 on every clock, and the frame that it is to carry, encoded with
+/// these columns.
 #[derive(Debug)]
 pub struct List {
     start: Receiver,
     idle: Vec<Call>,
+    table: Table,
     sent: Sent,
+    frame: Frame,
 }
 
 impl List {
-    pub fn any(random: &mut Random) -> List {
+    pub fn any(random: &mut Random, table: Table) -> List {
         let start = waiting(random);
-        List::from(random, start)
+        List::from(random, table, start)
     }
 
     /// A list from this state, which waits.
-    pub fn from(random: &mut Random, start: Receiver) -> List {
+    pub fn from(random: &mut Random, table: Table, start: Receiver) -> List {
         let sent = Sent::any(random, start.core.ids.id);
-        List::of(random, start, sent)
+        List::of(random, table, start, sent)
     }
 
     /// A list from this state, which waits, with this frame.
-    fn of(random: &mut Random, start: Receiver, sent: Sent) -> List {
+    fn of(random: &mut Random, table: Table, start: Receiver, sent: Sent) -> List {
+        let frame = sent.frame(&columns(&table));
         let mix = Mix::any(random);
         let mut idle = Vec::new();
-        for _ in 0..sent.frame().length {
+        for _ in 0..frame.length {
             mix.clock(random, 1, &mut idle);
         }
-        List { start, idle, sent }
+        List { start, idle, table, sent, frame }
     }
 
     /// The frame that it is to carry.
     pub fn frame(&self) -> Frame {
-        self.sent.frame()
+        self.frame
+    }
+
+    /// The columns of the frame.
+    pub fn columns(&self) -> Columns {
+        columns(&self.table)
     }
 }
 
@@ -127,7 +139,7 @@ impl<'a> Frames<'a> {
                 _ => dropped(idle_end, VERDICT_EVEN_SYNDROME),
             };
             self.carries(list, flipped, &idle, expected);
-            self.tallies.frame(list.sent, flipped, &idle);
+            self.tallies.frame((list.sent, list.frame), flipped, &idle);
         }
         clean.0.verdict
     }
@@ -135,7 +147,7 @@ impl<'a> Frames<'a> {
     /// The list with the bits of the frame, these flipped: "each clock before the last has verdict
     /// 0, and all outputs, bytes read and refusals before the last clock equal the idle list's".
     pub fn carries(&mut self, list: &List, flipped: u64, idle: &Run, expected: End) {
-        let calls = carrying(&list.idle, list.sent.frame().flipped(flipped));
+        let calls = carrying(&list.idle, list.frame.flipped(flipped));
         let run = self.runner.run(list.start, &calls);
         let cases = &self.runner.cases;
         let input = (list, flipped);
@@ -146,19 +158,21 @@ impl<'a> Frames<'a> {
     }
 }
 
-/// Each list with two single and two double flips.
-pub fn check(library: &dyn Library, seed: u64, lists: u64) {
+/// Each list with two single and two double flips, and with the next of these columns. Gives what was
+/// seen of all calls.
+pub fn check(library: &dyn Library, tables: Tables, seed: u64, lists: u64) -> Accesses {
     let mut frames = Frames::new(library, "lists that carry a frame");
     let mut random = Random::new(seed);
     for _ in 0..lists {
-        let list = List::any(&mut random);
+        let table = tables(&mut random);
+        let list = List::any(&mut random, table);
         let frame = list.frame();
         let flips = [1, 1, 2, 2].map(|count| protected(&mut random, frame, count));
         frames.list(&list, &flips);
     }
     frames.tallies.assert_complete();
-    frames.runner.accesses.assert_complete();
     frames.at_least(lists * 6 * 30);
+    frames.runner.accesses
 }
 
 /// Every flip of one and of two protected bits.
@@ -180,7 +194,7 @@ pub fn check_no_setting(library: &dyn Library, seed: u64) {
         let start = waiting(&mut random);
         let address = random.pick(&[0, start.core.ids.id]);
         let sent = Sent::Long(Fields { address, e: 0, sub_address, data });
-        let list = List::of(&mut random, start, sent);
+        let list = List::of(&mut random, OWN, start, sent);
         let row = frames.list(&list, &all_flips(list.frame()));
         frames.runner.cases.same(&list, row, VERDICT_NO_SETTING);
     }
@@ -192,7 +206,7 @@ pub fn check_all_flips(library: &dyn Library, seed: u64) {
     let mut frames = Frames::new(library, "lists that carry a frame, with all flips");
     let mut random = Random::new(seed);
     for _ in 0..100 {
-        let list = List::any(&mut random);
+        let list = List::any(&mut random, OWN);
         let flips = all_flips(list.frame());
         match list.sent {
             Sent::Short(_) => assert_eq!(flips.len(), 13 + 78),

@@ -6,6 +6,7 @@ use crate::runner::{Run, Runner};
 use ttcrx_host::sys::{Held, Receiver, VERDICT_NONE, VERDICT_STOP_BIT};
 use ttcrx_host::tallies;
 use ttcrx_host::testing::calls::{call, Call, Mix, MAP};
+use ttcrx_host::testing::columns::OWN;
 use ttcrx_host::testing::frame::{wanting, Frame, RUN};
 use ttcrx_host::testing::library::Library;
 use ttcrx_host::testing::random::Random;
@@ -138,7 +139,7 @@ impl<'a> Lists<'a> {
 
     /// A frame is received as on any receiver that waits.
     fn frame_after(&mut self, state: Receiver) {
-        let list = List::from(&mut self.random, state);
+        let list = List::from(&mut self.random, OWN, state);
         let frame = list.frame();
         let flips = [1, 2].map(|count| protected(&mut self.random, frame, count));
         let row = self.frames.list(&list, &flips);

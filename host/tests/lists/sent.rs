@@ -1,7 +1,7 @@
 //! Properly encoded frames, and what document 01's table, amended by Q-4 of document 02, says of
 //! their fields.
 
-use ttcrx_host::model::{Fields, Kind};
+use ttcrx_host::model::{Columns, Fields, Kind};
 use ttcrx_host::sys::*;
 use ttcrx_host::testing::frame::Frame;
 use ttcrx_host::testing::library::{Library, Model};
@@ -39,10 +39,11 @@ impl Sent {
         }
     }
 
-    pub fn frame(self) -> Frame {
+    /// Encoded with these columns.
+    pub fn frame(self, columns: &Columns) -> Frame {
         match self {
-            Sent::Short(data) => Frame::short(data),
-            Sent::Long(fields) => Frame::long(fields),
+            Sent::Short(data) => Frame::encoded_with(columns, Kind::Short, data.into()),
+            Sent::Long(fields) => Frame::long_with(columns, fields),
         }
     }
 

@@ -5,9 +5,10 @@ use crate::frames::{clean, dropped, one_flip, End, Frames, List};
 use crate::sent::Sent;
 use crate::tallies::edge;
 use std::iter;
-use ttcrx_host::model::Kind;
+use ttcrx_host::model::{Columns, Kind};
 use ttcrx_host::sys::*;
 use ttcrx_host::tallies;
+use ttcrx_host::testing::columns::Tables;
 use ttcrx_host::testing::frame::Frame;
 use ttcrx_host::testing::library::Library;
 use ttcrx_host::testing::random::Random;
@@ -61,13 +62,14 @@ fn taken_for(kind: Kind, word: u32, place: u8, idle: End) -> End {
     }
 }
 
-/// What is due for a frame that arrives so: that of an encoded frame which is at most one flip away.
-/// If there is none, 11 for an odd number of flips and 8 for an even one.
-fn due(arrived: Frame, flipped: u64, idle: End) -> End {
+/// What is due for a frame that arrives so: that of a frame encoded with these columns which is at
+/// most one flip away. If there is none, 11 for an odd number of flips and 8 for an even one.
+fn due(columns: &Columns, arrived: Frame, flipped: u64, idle: End) -> End {
     let one_flip = arrived.places().map(|place| (place, arrived.flipped(arrived.at(place))));
     let mut near = iter::once((0, arrived)).chain(one_flip);
     let kind = arrived.kind();
-    let encoded = near.find(|(_, frame)| Frame::encoded(kind, frame.data()) == *frame);
+    let encoded =
+        near.find(|(_, frame)| Frame::encoded_with(columns, kind, frame.data()) == *frame);
     match (encoded, flipped.count_ones() % 2) {
         (Some((place, frame)), _) => taken_for(kind, frame.data(), place, idle),
         (None, 0) => dropped(idle, VERDICT_EVEN_SYNDROME),
@@ -75,17 +77,19 @@ fn due(arrived: Frame, flipped: u64, idle: End) -> End {
     }
 }
 
-/// Each list with three sets of flips.
-pub fn check(library: &dyn Library, seed: u64, lists: u64) {
+/// Each list with three sets of flips, and with the next of these columns.
+pub fn check(library: &dyn Library, tables: Tables, seed: u64, lists: u64) {
     let mut frames = Frames::new(library, "lists that carry a frame with any number of flips");
     let mut tallies = Tallies::default();
     let mut random = Random::new(seed);
     for _ in 0..lists {
-        let list = List::any(&mut random);
-        let frame = list.frame();
+        let table = tables(&mut random);
+        let list = List::any(&mut random, table);
+        let (frame, columns) = (list.frame(), list.columns());
         let idle = frames.idle(&list);
         for flipped in [(); 3].map(|()| storm(&mut random, frame, 3)) {
-            let due = due(frame.flipped(flipped), flipped, (idle.last(), idle.end));
+            let idle_end = (idle.last(), idle.end);
+            let due = due(&columns, frame.flipped(flipped), flipped, idle_end);
             frames.carries(&list, flipped, &idle, due);
             tallies.storm(frame, flipped, &idle.end, due.0);
         }

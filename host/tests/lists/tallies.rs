@@ -31,8 +31,8 @@ tallies! {
 }
 
 impl Tallies {
-    /// A frame with these bits flipped, and the idle list's run.
-    pub fn frame(&mut self, sent: Sent, flipped: u64, idle: &Run) {
+    /// A frame and its fields, these bits flipped, and the idle list's run.
+    pub fn frame(&mut self, (sent, frame): (Sent, Frame), flipped: u64, idle: &Run) {
         let flips = flipped.count_ones() as u8;
         let id = idle.end.core.ids.id;
         let row = sent.row(id);
@@ -45,7 +45,7 @@ impl Tallies {
         let errors = idle.end.core.errors;
         self.status5.seen([errors.status5, flips]);
         self.errors(row, flips, errors);
-        self.places(sent.frame(), flipped);
+        self.places(frame, flipped);
     }
 
     fn long(&mut self, fields: Fields, id: u16, row: u8, flips: u8) {

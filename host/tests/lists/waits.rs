@@ -4,7 +4,9 @@ use crate::runner::{Run, Runner};
 use ttcrx_host::sys::Held;
 use ttcrx_host::tallies;
 use ttcrx_host::testing::calls::{call, Call, Mix};
-use ttcrx_host::testing::coverage::{kind, KINDS};
+use ttcrx_host::testing::columns::Tables;
+use ttcrx_host::testing::convert::columns;
+use ttcrx_host::testing::coverage::{kind, Accesses, Quiet, KINDS};
 use ttcrx_host::testing::library::Library;
 use ttcrx_host::testing::random::Random;
 use ttcrx_host::testing::traffic::{Traffic, LIVELY};
@@ -92,13 +94,16 @@ fn waits(runner: &Runner, calls: &[Call], run: &Run, trigger: u8) {
     runner.cases.same(input, answer, (0, 0, start_bit));
 }
 
-pub fn check(library: &dyn Library, seed: u64, lists: u64) {
+/// Each list with frames of the next of these columns. Gives what was seen of all calls.
+pub fn check(library: &dyn Library, tables: Tables, seed: u64, lists: u64) -> (Accesses, Quiet) {
     let mut runner = Runner::new(library, "lists that end on 41 ones");
     let mut tallies = Ends::default();
     let mut random = Random::new(seed);
     let mut traffic = Traffic::new(seed);
     for _ in 0..lists {
-        let start = states::well_formed(&mut random);
+        let columns = columns(&tables(&mut random));
+        let start = states::well_formed_with(&mut random, &columns);
+        traffic.encode_with(columns);
         traffic.start(start.core.ids.id, LIVELY);
         let calls = list(&mut random, &mut traffic);
         assert!(ones_at_the_end(&calls) >= ONES);
@@ -107,7 +112,6 @@ pub fn check(library: &dyn Library, seed: u64, lists: u64) {
         tallies.list(&calls, &run);
     }
     tallies.assert_complete();
-    runner.accesses.assert_complete();
-    runner.quiet.assert_complete();
     runner.cases.at_least(lists * 100);
+    (runner.accesses, runner.quiet)
 }

@@ -84,6 +84,59 @@ unsafe extern "C" fn ttcrx_run_block(
     chosen().run_block(&mut *receiver, block, buffer)
 }
 
+/// Functions that are lent columns: what comes before these, and what comes after.
+macro_rules! lent_columns {
+    ($($symbol:ident: $function:ident(
+        $($before:ident: $early:ty)?; $($after:ident: $late:ty),*
+    ) -> $answer:ty;)*) => {$(
+        #[no_mangle]
+        unsafe extern "C" fn $symbol(
+            $($before: $early,)?
+            columns: *const u8,
+            columns_length: usize,
+            $($after: $late),*
+        ) -> $answer {
+            chosen().$function($($before,)? lent(columns, columns_length), $($after),*)
+        }
+    )*};
+}
+
+lent_columns! {
+    ttcrx_check_columns: check_columns(;) -> ColumnsAnswer;
+    ttcrx_encode_short_with_columns:
+        encode_short_with_columns(; data: u8) -> EncodedWithIndex;
+    ttcrx_encode_long_with_columns:
+        encode_long_with_columns(; address: u16, e: u8, sub: u8, data: u8) -> EncodedWithIndex;
+    ttcrx_decode_short_with_columns:
+        decode_short_with_columns(; number: u64) -> DecodedWithIndex;
+    ttcrx_decode_long_with_columns:
+        decode_long_with_columns(; number: u64) -> DecodedWithIndex;
+    ttcrx_clock_with_columns:
+        clock_with_columns(receiver: Receiver; trigger: u8, data: u8) -> ClockWithIndex;
+    ttcrx_receive_with_columns:
+        receive_with_columns(receiver: Receiver; kind: u8, number: u64) -> ClockWithIndex;
+    ttcrx_receive_short_with_columns:
+        receive_short_with_columns(receiver: Receiver; number: u64) -> ClockWithIndex;
+    ttcrx_receive_long_with_columns:
+        receive_long_with_columns(receiver: Receiver; number: u64) -> ClockWithIndex;
+}
+
+#[no_mangle]
+unsafe extern "C" fn ttcrx_run_block_with_columns(
+    receiver: *mut Receiver,
+    columns: *const u8,
+    columns_length: usize,
+    block: *const u8,
+    block_length: usize,
+    buffer: *mut u32,
+    buffer_length: usize,
+) -> BlockWithIndex {
+    let columns = lent(columns, columns_length);
+    let block = lent(block, block_length);
+    let buffer = lent_for_writing(buffer, buffer_length);
+    chosen().run_block_with_columns(&mut *receiver, columns, block, buffer)
+}
+
 #[no_mangle]
 unsafe extern "C" fn ttcrx_report_input(
     report: Report,

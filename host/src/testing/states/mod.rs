@@ -6,6 +6,7 @@ use super::calls::LAST_DELAY_BYTE;
 use super::frame::{wanting, RUN};
 use super::random::Random;
 use super::traffic;
+use crate::model::Columns;
 use crate::sys::{Core, Counters, Errors, Held, Ids, Receiver, Sequence, Settings};
 
 /// 0 to limit - 1; often at the first or at the last of them.
@@ -20,13 +21,13 @@ fn below(random: &mut Random, limit: u64) -> u64 {
 
 /// It waits, or wants ones, or mostly holds the bits of a frame that has not arrived whole; often
 /// all but the last.
-fn held(random: &mut Random, id: u16) -> Held {
+fn held(random: &mut Random, columns: &Columns, id: u16) -> Held {
     match random.below(5) {
         0 => return Held::default(),
         1 => return wanting(1 + below(random, RUN.into()) as u8),
         _ => {}
     }
-    let frame = traffic::frame(random, id);
+    let frame = traffic::frame_with(random, columns, id);
     let missing = match random.once_in(2) {
         true => 1,
         false => 1 + random.below(u64::from(frame.length) - 1) as u8,
@@ -58,6 +59,11 @@ fn settings(random: &mut Random) -> Settings {
 
 /// A well-formed state. Its unfinished frame may have any fate at this receiver.
 pub fn well_formed(random: &mut Random) -> Receiver {
+    well_formed_with(random, Columns::own())
+}
+
+/// The same, the unfinished frame with these columns.
+pub fn well_formed_with(random: &mut Random, columns: &Columns) -> Receiver {
     let id = 1 + below(random, 16383) as u16;
     Receiver {
         core: Core {
@@ -74,7 +80,7 @@ pub fn well_formed(random: &mut Random) -> Receiver {
             },
             sequence: sequence(random),
         },
-        held: held(random, id),
+        held: held(random, columns, id),
     }
 }
 
@@ -121,6 +127,21 @@ pub fn garbage(random: &mut Random) -> Receiver {
             sequence: Sequence { left, event: random.any_length() as u32 },
         },
         held: Held { count, ones_wanted, bits: random.any_length() },
+    }
+}
+
+/// A state that is garbage, or well formed with some of it.
+pub fn any(random: &mut Random) -> Receiver {
+    any_with(random, Columns::own())
+}
+
+/// The same, an unfinished frame of a well-formed state with these columns.
+pub fn any_with(random: &mut Random, columns: &Columns) -> Receiver {
+    let garbage = garbage(random);
+    let good = well_formed_with(random, columns);
+    match random.once_in(4) {
+        true => garbage,
+        false => mixed(random, good, &garbage),
     }
 }
 

@@ -1,12 +1,16 @@
 //! Compares no entry point: the model alone, with the rules of documents 01 and 02. It is compiled
 //! here from its own folder, which shows that it depends on nothing else of the package.
 
+mod columns;
 #[allow(dead_code, unused_imports)]
-#[path = "../src/model/mod.rs"]
+#[path = "../../src/model/mod.rs"]
 mod model;
 #[allow(dead_code)]
-#[path = "../src/testing/random.rs"]
+#[path = "../../src/testing/random.rs"]
 mod random;
+#[allow(dead_code)]
+#[path = "../../src/testing/columns.rs"]
+mod tables;
 
 use model::{bits, decode_long, decode_short, delay_byte, delay_setting};
 use model::{encode_long, encode_short, encode_word, read_line, write_line};
