@@ -1,6 +1,6 @@
 /*
- * What the checks of the C interface share: the count of them, comparisons of states and of what a
- * clock shows, and a buffer for text with guards.
+ * What the checks of the C interface share: the count of them, comparisons of states, of what a clock
+ * shows and of what encoders and decoders answer, and a buffer for text with guards.
  */
 #ifndef CHECKS_H
 #define CHECKS_H
@@ -147,6 +147,32 @@ static ttcrx_clock_answer send_bits(ttcrx_receiver receiver, unsigned length, ui
         answer = ttcrx_clock(answer.receiver, 0, (uint8_t)(number >> length & 1));
     }
     return answer;
+}
+
+static int encoded_is(ttcrx_encoded answer, uint8_t refusal, uint64_t number)
+{
+    return answer.refusal == refusal && answer.number == number;
+}
+
+static int fields_are(ttcrx_fields fields, uint16_t address, uint8_t e, uint8_t sub_address,
+                      uint8_t data)
+{
+    return fields.address == address && fields.e == e && fields.sub_address == sub_address &&
+           fields.data == data;
+}
+
+/* A good frame: the corrected flag is 0 if and only if the place is. */
+static int good(ttcrx_decoded answer, uint8_t place, uint32_t word)
+{
+    return answer.refusal == TTCRX_ACCEPTED && answer.verdict == TTCRX_DECODED_GOOD &&
+           answer.corrected == (place != 0) && answer.place == place && answer.word == word;
+}
+
+/* A refusal, or a verdict of 7, 8, 9 or 11: no flag, no place and no fields. */
+static int bad(ttcrx_decoded answer, uint8_t refusal, uint8_t verdict, uint32_t word)
+{
+    return answer.refusal == refusal && answer.verdict == verdict && answer.corrected == 0 &&
+           answer.place == 0 && answer.word == word && fields_are(answer.fields, 0, 0, 0, 0);
 }
 
 /* A buffer for text, between guards. Before it is lent, neighbours differ, and no byte is text. */

@@ -4,14 +4,10 @@
  */
 #include "blocks.h"
 #include "checks.h"
+#include "columns.h"
 #include "layouts.h"
 #include "reports.h"
 #include "tables.h"
-
-static int encoded_is(ttcrx_encoded answer, uint8_t refusal, uint64_t number)
-{
-    return answer.refusal == refusal && answer.number == number;
-}
 
 static void check_encoders(void)
 {
@@ -20,27 +16,6 @@ static void check_encoders(void)
     CHECK(encoded_is(ttcrx_encode_long(5, 0, 2, 0x35), TTCRX_ACCEPTED, WRITE_35));
     CHECK(encoded_is(ttcrx_encode_long(16384, 0, 0, 0), TTCRX_REFUSED_FIELD, 0));
     CHECK(encoded_is(ttcrx_encode_long(0, 2, 0, 0), TTCRX_REFUSED_FIELD, 0));
-}
-
-static int fields_are(ttcrx_fields fields, uint16_t address, uint8_t e, uint8_t sub_address,
-                      uint8_t data)
-{
-    return fields.address == address && fields.e == e && fields.sub_address == sub_address &&
-           fields.data == data;
-}
-
-/* A good frame: the corrected flag is 0 if and only if the place is. */
-static int good(ttcrx_decoded answer, uint8_t place, uint32_t word)
-{
-    return answer.refusal == TTCRX_ACCEPTED && answer.verdict == TTCRX_DECODED_GOOD &&
-           answer.corrected == (place != 0) && answer.place == place && answer.word == word;
-}
-
-/* A refusal, or a verdict of 7, 8, 9 or 11: no flag, no place and no fields. */
-static int bad(ttcrx_decoded answer, uint8_t refusal, uint8_t verdict, uint32_t word)
-{
-    return answer.refusal == refusal && answer.verdict == verdict && answer.corrected == 0 &&
-           answer.place == 0 && answer.word == word && fields_are(answer.fields, 0, 0, 0, 0);
 }
 
 static void check_decoders(void)
@@ -370,6 +345,7 @@ int main(void)
     check_frames_without_a_setting();
     check_whole_frames();
     check_blocks();
+    check_lent_columns();
     check_reports();
     check_tables();
     if (failed != 0) {

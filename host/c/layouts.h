@@ -47,5 +47,10 @@ SIZE(line_part, 12); AT(line_part, 0, count); AT(line_part, 1, characters);
 SIZE(report, 72); AT(report, 0, receiver); AT(report, 48, lines); AT(report, 56, part);
 SIZE(reported, 96); AT(reported, 0, report); AT(reported, 72, used); AT(reported, 80, written);
     AT(reported, 88, room_wanted);
+SIZE(columns_answer, 2); AT(columns_answer, 0, refusal); AT(columns_answer, 1, index);
+SIZE(encoded_with_index, 24); AT(encoded_with_index, 0, answer); AT(encoded_with_index, 16, index);
+SIZE(decoded_with_index, 20); AT(decoded_with_index, 0, answer); AT(decoded_with_index, 16, index);
+SIZE(clock_with_index, 80); AT(clock_with_index, 0, answer); AT(clock_with_index, 72, index);
+SIZE(block_with_index, 24); AT(block_with_index, 0, answer); AT(block_with_index, 16, index);
 
 #endif
