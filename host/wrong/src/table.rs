@@ -1,5 +1,6 @@
 //! All mistakes: the function that each is in, the tests that must find it, and what is wrong.
 
+use crate::mistakes::columns::{Index, Keeping, Lent};
 use crate::mistakes::frames::{Sent, Taken};
 use crate::mistakes::places::{Decoders, Told};
 use crate::mistakes::*;
@@ -283,6 +284,91 @@ table! {
         "the word is printed for verdict 11 instead of -";
     ReportEnd places::last_line_without_place, "reports places" "reports ends":
         "a last line without line feed is printed without its place";
+
+    // The encoder's own columns: Q-11 of document 02.
+    Lent columns::single_ones_accepted, "columns check" "columns refusals":
+        "a column with one one is accepted";
+    Lent columns::even_counts_accepted, "columns check" "columns refusals":
+        "a column with two, four or six ones is accepted";
+    Lent columns::zero_accepted, "columns check":
+        "a column of 0 is accepted";
+    Lent columns::wide_short_columns_accepted, "columns check" "columns refusals":
+        "a short column of 32 to 127 is accepted";
+    Lent columns::wide_long_columns_accepted, "columns check" "columns refusals":
+        "a long column of 128 and more is accepted";
+    Lent columns::equal_columns_accepted, "columns check" "columns refusals":
+        "equal columns of a group are accepted";
+    Lent columns::neighbours_compared_only, "columns check":
+        "a column is compared with the one before it alone";
+    Lent columns::five_ones_refused, "columns check" "columns clocks" "blocks columns":
+        "a column with five ones is refused";
+    Lent columns::groups_compared, "columns check" "columns own":
+        "a long column that is equal to a short one is refused";
+    Lent columns::earlier_of_two_told, "columns check" "columns refusals" "blocks columns":
+        "of two equal columns the earlier is told";
+    Lent columns::last_bad_column_told, "columns check":
+        "of several bad columns the last is told";
+    Lent columns::column_before_length, "columns check" "columns refusals" "blocks columns":
+        "refusal 28 comes before 27";
+    Lent columns::more_than_40_accepted, "columns check" "columns refusals":
+        "of more than 40 columns the first 40 are taken";
+    Lent columns::length_in_one_byte, "columns check" "columns refusals":
+        "the number of columns is taken modulo 256";
+    Lent columns::own_columns_for_long_frames, "columns frames" "columns clocks" "lists with_columns"
+        "blocks columns":
+        "long frames have the own columns, whatever is lent";
+    Lent columns::own_columns_for_short_frames, "columns frames" "columns clocks"
+        "lists with_columns" "blocks columns":
+        "short frames have the own columns, whatever is lent";
+    Lent columns::columns_from_the_highest_bit, "columns frames" "columns clocks" "columns own"
+        "lists with_columns":
+        "the first column of a group is that of its highest bit";
+    Index columns::index_within_the_group, "columns check" "columns refusals" "blocks columns":
+        "the index counts from the first column of the group";
+    Index columns::indices_from_1, "columns check" "columns refusals" "blocks columns":
+        "the index counts from 1";
+    Index columns::index_beside_refusal_2, "columns refusals" "blocks columns":
+        "the index of a bad column is told beside refusal 2";
+    Index columns::index_40_with_27, "columns check" "columns refusals" "blocks columns":
+        "the index is 40 with refusal 27";
+    ClockWithColumns columns::length_before_state, "columns refusals":
+        "refusal 27 comes before 2 in a clock";
+    ReceiveWithColumns columns::column_before_state, "columns refusals":
+        "refusal 28 comes before 2 in a whole frame";
+    ClockWithColumns columns::bit_before_column, "columns refusals" "columns runs":
+        "refusal 1 comes before 28";
+    ClockWithColumns columns::bit_before_length, "columns refusals" "columns runs":
+        "refusal 1 comes before 27";
+    ReceiveWithColumns columns::kind_before_column, "columns refusals":
+        "refusal 12 of a kind comes before 28";
+    DecodeLongWithColumns columns::frame_before_column, "columns refusals":
+        "refusal 12 of a number comes before 27 and 28";
+    EncodeLongWithColumns columns::field_before_column, "columns refusals":
+        "refusal 13 comes before 27 and 28";
+    EncodeShortWithColumns columns::long_columns_not_checked, "columns refusals":
+        "the encoder of short frames does not check the long columns";
+    DecodeLongWithColumns columns::short_columns_not_checked, "columns refusals":
+        "the decoder of long frames does not check the short columns";
+    ClockWithColumns columns::columns_checked_with_a_frame_only, "columns refusals" "columns runs":
+        "a clock checks its columns only if a frame finishes on it";
+    ClockWithColumns columns::refused_columns_count_a_clock, "columns refusals" "columns runs":
+        "a clock that is refused by 27 or 28 changes the bunch counter";
+    ClockWithColumns columns::outputs_of_a_refused_clock, "columns refusals" "columns runs":
+        "a clock that is refused by 28 shows its trigger";
+    ClockWithColumns columns::first_clock_decides, "columns changes" "columns runs":
+        "the columns of a frame's first clock decide";
+    Keeping columns::lent_columns_stay, "columns changes":
+        "a clock without columns uses those that were lent last";
+    RunBlockWithColumns columns::own_columns_in_blocks, "blocks columns":
+        "blocks have the own columns, whatever is lent";
+    RunBlockWithColumns columns::block_length_before_columns, "blocks columns":
+        "refusal 15 comes before 27 and 28";
+    RunBlockWithColumns columns::empty_block_takes_any_columns, "blocks columns":
+        "an empty block does not check its columns";
+    RunBlockWithColumns columns::refused_columns_clear_the_buffer, "blocks columns":
+        "a block that is refused by 28 clears the buffer";
+    RunBlockWithColumns columns::refused_columns_run_the_block, "blocks columns":
+        "the clocks of a block that is refused by 28 are done";
 
     // Registers.
     Read registers::register_before_state, "registers":

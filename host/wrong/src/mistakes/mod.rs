@@ -3,6 +3,7 @@
 
 pub mod blocks;
 pub mod clock;
+pub mod columns;
 pub mod frames;
 pub mod lines;
 pub mod no_setting;
@@ -44,6 +45,23 @@ instead! {
     ReceiveLong: receive_long(receiver: Receiver, number: u64) -> ClockAnswer;
     RunBlock: run_block(lent: &mut Receiver, block: &[u8], buffer: &mut [u32]) -> BlockOutcome;
     FilledLength: filled_length(buffer_length: usize, records: usize) -> usize;
+    EncodeShortWithColumns:
+        encode_short_with_columns(columns: &[u8], data: u8) -> EncodedWithIndex;
+    EncodeLongWithColumns:
+        encode_long_with_columns(columns: &[u8], address: u16, e: u8, sub: u8, data: u8)
+            -> EncodedWithIndex;
+    DecodeLongWithColumns:
+        decode_long_with_columns(columns: &[u8], number: u64) -> DecodedWithIndex;
+    ClockWithColumns:
+        clock_with_columns(receiver: Receiver, columns: &[u8], trigger: u8, data: u8)
+            -> ClockWithIndex;
+    ReceiveWithColumns:
+        receive_with_columns(receiver: Receiver, columns: &[u8], kind: u8, number: u64)
+            -> ClockWithIndex;
+    RunBlockWithColumns:
+        run_block_with_columns(
+            lent: &mut Receiver, columns: &[u8], block: &[u8], buffer: &mut [u32]
+        ) -> BlockWithIndex;
     ReportStart: report_start() -> Report;
     ReportInput: report_input(report: Report, input: &[u8], buffer: &mut [u8]) -> Reported;
     ReportEnd: report_end(report: Report, buffer: &mut [u8]) -> Reported;
