@@ -75,7 +75,7 @@ pub const FAULT: (&str, u8, u8) = ("fault (0, 1, 2, 4, 6, 8 ones; odd but too wi
 pub fn fault(table: &Table, index: usize, number: u8) -> Option<u8> {
     let earlier = &table[group(index).start..index];
     match number.count_ones() {
-        few @ (0 | 1 | 2) => Some(few as u8),
+        few @ 0..=2 => Some(few as u8),
         4 => Some(3),
         6 => Some(4),
         8 => Some(5),

@@ -7,7 +7,6 @@ use ttcrx_host::testing::calls::{refused_clock, Call};
 use ttcrx_host::testing::columns;
 use ttcrx_host::testing::compare::Both;
 use ttcrx_host::testing::convert::{self, Answer};
-use ttcrx_host::testing::coverage::{assert_seen, Tally};
 use ttcrx_host::testing::library::Library;
 use ttcrx_host::testing::random::Random;
 use ttcrx_host::testing::states::{self, edges};
@@ -17,7 +16,6 @@ const STATE: u8 = 1;
 const LENGTH: u8 = 2;
 const COLUMN: u8 = 4;
 const OTHER: u8 = 8;
-const FAULTS: &str = "faults (1 ill-formed, 2 not 40 columns, 4 bad column, 8 other arguments)";
 
 /// What a call is given beside its other arguments.
 struct Given<'a> {
@@ -151,14 +149,12 @@ fn every_combination() {
     let mut random = Random::new(720);
     let mut ill_formed = edges::all(&mut random);
     ill_formed.retain(|edge| !edge.good);
-    let mut seen = Tally::of([("function", 0, 8), (FAULTS, 0, 15)]);
-    for (place, function) in (0..).zip(&FUNCTIONS) {
-        for faults in (0..16).flat_map(|faults| [faults; 300]) {
-            let can_have = function.can_have | LENGTH | COLUMN;
-            seen.seen([place, faults]);
-            let faults = faults & can_have;
-            let (columns, index) =
-                columns::lent(&mut random, faults & LENGTH != 0, faults & COLUMN != 0);
+    for (place, function) in FUNCTIONS.iter().enumerate() {
+        let can_have = function.can_have | LENGTH | COLUMN;
+        let combinations = (0..16).filter(|faults| faults & !can_have == 0);
+        for faults in combinations.flat_map(|faults| [faults; 300]) {
+            let (wrong_length, one_bad) = (faults & LENGTH != 0, faults & COLUMN != 0);
+            let (columns, index) = columns::lent(&mut random, wrong_length, one_bad);
             let state = match faults & STATE != 0 {
                 true => random.pick(&ill_formed).state,
                 false => states::well_formed(&mut random),
@@ -170,8 +166,7 @@ fn every_combination() {
             both.same(input, left || refusal == ACCEPTED, true);
         }
     }
-    assert_seen(&[&seen]);
-    both.at_least(9 * 16 * 300 * 3);
+    both.at_least((2 * 4 + 3 * 8 + 4 * 16) * 300 * 3);
 }
 
 /// States at every edge of "Well formed", with columns that are right and wrong: 2 comes first.

@@ -1,7 +1,8 @@
 //! All mistakes: the function that each is in, the tests that must find it, and what is wrong.
 
-use crate::mistakes::columns::{Index, Keeping, Lent};
+use crate::mistakes::columns::{Index, Lent};
 use crate::mistakes::frames::{Sent, Taken};
+use crate::mistakes::lending::Keeping;
 use crate::mistakes::places::{Decoders, Told};
 use crate::mistakes::*;
 use crate::Shared;
@@ -331,43 +332,43 @@ table! {
         "the index of a bad column is told beside refusal 2";
     Index columns::index_40_with_27, "columns check" "columns refusals" "blocks columns":
         "the index is 40 with refusal 27";
-    ClockWithColumns columns::length_before_state, "columns refusals":
+    ClockWithColumns lending::length_before_state, "columns refusals":
         "refusal 27 comes before 2 in a clock";
-    ReceiveWithColumns columns::column_before_state, "columns refusals":
+    ReceiveWithColumns lending::column_before_state, "columns refusals":
         "refusal 28 comes before 2 in a whole frame";
-    ClockWithColumns columns::bit_before_column, "columns refusals" "columns runs":
+    ClockWithColumns lending::bit_before_column, "columns refusals" "columns runs":
         "refusal 1 comes before 28";
-    ClockWithColumns columns::bit_before_length, "columns refusals" "columns runs":
+    ClockWithColumns lending::bit_before_length, "columns refusals" "columns runs":
         "refusal 1 comes before 27";
-    ReceiveWithColumns columns::kind_before_column, "columns refusals":
+    ReceiveWithColumns lending::kind_before_column, "columns refusals":
         "refusal 12 of a kind comes before 28";
-    DecodeLongWithColumns columns::frame_before_column, "columns refusals":
+    DecodeLongWithColumns lending::frame_before_column, "columns refusals":
         "refusal 12 of a number comes before 27 and 28";
-    EncodeLongWithColumns columns::field_before_column, "columns refusals":
+    EncodeLongWithColumns lending::field_before_column, "columns refusals":
         "refusal 13 comes before 27 and 28";
-    EncodeShortWithColumns columns::long_columns_not_checked, "columns refusals":
+    EncodeShortWithColumns lending::long_columns_not_checked, "columns refusals":
         "the encoder of short frames does not check the long columns";
-    DecodeLongWithColumns columns::short_columns_not_checked, "columns refusals":
+    DecodeLongWithColumns lending::short_columns_not_checked, "columns refusals":
         "the decoder of long frames does not check the short columns";
-    ClockWithColumns columns::columns_checked_with_a_frame_only, "columns refusals" "columns runs":
+    ClockWithColumns lending::columns_checked_with_a_frame_only, "columns refusals" "columns runs":
         "a clock checks its columns only if a frame finishes on it";
-    ClockWithColumns columns::refused_columns_count_a_clock, "columns refusals" "columns runs":
+    ClockWithColumns lending::refused_columns_count_a_clock, "columns refusals" "columns runs":
         "a clock that is refused by 27 or 28 changes the bunch counter";
-    ClockWithColumns columns::outputs_of_a_refused_clock, "columns refusals" "columns runs":
+    ClockWithColumns lending::outputs_of_a_refused_clock, "columns refusals" "columns runs":
         "a clock that is refused by 28 shows its trigger";
-    ClockWithColumns columns::first_clock_decides, "columns changes" "columns runs":
+    ClockWithColumns lending::first_clock_decides, "columns changes" "columns runs":
         "the columns of a frame's first clock decide";
-    Keeping columns::lent_columns_stay, "columns changes":
+    Keeping lending::lent_columns_stay, "columns changes":
         "a clock without columns uses those that were lent last";
-    RunBlockWithColumns columns::own_columns_in_blocks, "blocks columns":
+    RunBlockWithColumns lending::own_columns_in_blocks, "blocks columns":
         "blocks have the own columns, whatever is lent";
-    RunBlockWithColumns columns::block_length_before_columns, "blocks columns":
+    RunBlockWithColumns lending::block_length_before_columns, "blocks columns":
         "refusal 15 comes before 27 and 28";
-    RunBlockWithColumns columns::empty_block_takes_any_columns, "blocks columns":
+    RunBlockWithColumns lending::empty_block_takes_any_columns, "blocks columns":
         "an empty block does not check its columns";
-    RunBlockWithColumns columns::refused_columns_clear_the_buffer, "blocks columns":
+    RunBlockWithColumns lending::refused_columns_clear_the_buffer, "blocks columns":
         "a block that is refused by 28 clears the buffer";
-    RunBlockWithColumns columns::refused_columns_run_the_block, "blocks columns":
+    RunBlockWithColumns lending::refused_columns_run_the_block, "blocks columns":
         "the clocks of a block that is refused by 28 are done";
 
     // Registers.
