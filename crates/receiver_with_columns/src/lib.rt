@@ -7,24 +7,35 @@
 // refuses by 2 itself, and a well-formed state is checked once.
 ghost use mathlib.Core.Path.{_≡_};
 ghost use mathlib.Core.Bool.{cond};
+ghost use Prim.Native.Nat.{_/_, _%_, _^_, _<_, _≤_};
 ghost use Rattle.hamming.specs.Code.{inUse};
 ghost use Rattle.frame.specs.Columns.{columnsFor};
 ghost use Rattle.lent_columns.specs.Check.{columnsAnswer};
-ghost use Rattle.receiver_state.specs.WellFormed.{wellFormed};
-ghost use Rattle.receiver.specs.Clock.{refusedClock, clockAnswer};
+ghost use Rattle.frame.specs.Bits.{bitsOf};
+ghost use Rattle.receiver_state.specs.WellFormed.{wellFormed, ReceiverFacts};
+ghost use Rattle.receiver.specs.Clock.{stepAnswer, refusedClock, clockAnswer};
+ghost use Rattle.whole_frame.specs.WholeFrame.{clocksAnswer, noClock, receiveAnswer};
+ghost use Rattle.whole_frame.specs.ByFormat.{receiveByFormat};
 ghost use Rattle.receiver_with_columns.specs.WithColumns.{clockWith, clockWithColumns, receiveWithColumns, receiveByFormatWithColumns, blockDoneWith, runBlockWithColumns};
+use channel_b::Taken;
+use channel_b::held_after;
+use channel_b::take_bit;
 use frame::Kind;
+use frame::decode_finished;
+use frame::frame_bits;
+use frame::is_frame;
+use idle_clock::idle_clock;
 use lent_columns::ColumnsAnswer;
 use lent_columns::check_columns;
 use receiver::ClockAnswer;
+use receiver::answered;
 use receiver::refuse_clock;
 use receiver_state::Receiver;
 use receiver_state::well_formed;
 use trace::BlockAnswer;
 use trace::run_block_over;
-use whole_frame::receive_by_format_over;
-use whole_frame::receive_frame_over;
-use whole_frame::step_apart;
+use verdicts::finish;
+use whole_frame::kind_of;
 
 // What a clock answers that is lent columns.
 #[repr(C)]
@@ -63,6 +74,22 @@ fn refuse_with_index(receiver: Receiver, checked: ColumnsAnswer) -> ClockWithInd
     }
 }
 
+// The unchecked step over these columns, by its parts: with a second caller `step` would not be inlined
+// into the single clock, nor its other copy into `receive_frame` (docs/DECISIONS.md).
+fn step_over(short: &[u8], long: &[u8], receiver: Receiver, trigger: u8, data: u8) -> ClockAnswer
+    ensures { λ r. ⌜ r ≡ stepAnswer (columnsFor (inUse (now (short .entry))) (inUse (now (long .entry)))) receiver trigger «data» ⌝ }
+{
+    let taken = take_bit(receiver.held, data);
+    match taken {
+        Taken::Unfinished(held) => answered(idle_clock(receiver.core, trigger), held),
+        Taken::Finished { kind, number } => {
+            let idle = idle_clock(receiver.core, trigger);
+            let frame = decode_finished(short, long, kind, number);
+            answered(finish(kind, frame, idle), held_after(number))
+        }
+    }
+}
+
 // One clock over these columns.
 fn clock_over(short: &[u8], long: &[u8], receiver: Receiver, trigger: u8, data: u8) -> ClockAnswer
     ensures { λ r. ⌜ r ≡ clockAnswer (columnsFor (inUse (now (short .entry))) (inUse (now (long .entry)))) receiver trigger «data» ⌝ }
@@ -76,7 +103,75 @@ fn clock_over(short: &[u8], long: &[u8], receiver: Receiver, trigger: u8, data: 
     if data > 1 {
         return refuse_clock(1, receiver);
     }
-    step_apart(short, long, receiver, trigger, data)
+    step_over(short, long, receiver, trigger, data)
+}
+
+// The bit of a number at a place, 0 the least.
+fn bit_at(number: u64, place: u8) -> u8
+    requires { ⌜ place < 64 ⌝ }
+    ensures { λ r. ⌜ r ≡ number / 2 ^ place % 2 ⌝ }
+{
+    ((number >> place) % 2) as u8
+}
+
+// So many bits of a number, one a clock, without triggers, on a state that is known to be well formed.
+fn receive_bits(
+    short: &[u8],
+    long: &[u8],
+    receiver: Receiver,
+    count: u8,
+    number: u64,
+) -> ClockAnswer
+    requires { ⌜ (ReceiverFacts receiver) × (count ≤ 64) ⌝ }
+    ensures { λ r. ⌜ r ≡ clocksAnswer (columnsFor (inUse (now (short .entry))) (inUse (now (long .entry)))) (noClock receiver) (bitsOf count number) ⌝ }
+{
+    // No clock yet: number 0, the state as given, and no outputs.
+    let mut answer = refuse_clock(0, receiver);
+    let mut left = count;
+    while left > 0 {
+        left -= 1;
+        let bit = bit_at(number, left);
+        answer = step_over(short, long, answer.receiver, 0, bit);
+    }
+    answer
+}
+
+// A whole frame over these columns, bit by bit.
+fn receive_over(
+    short: &[u8],
+    long: &[u8],
+    receiver: Receiver,
+    kind: Kind,
+    number: u64,
+) -> ClockAnswer
+    ensures { λ r. ⌜ r ≡ receiveAnswer (columnsFor (inUse (now (short .entry))) (inUse (now (long .entry)))) receiver kind number ⌝ }
+{
+    if !well_formed(receiver) {
+        return refuse_clock(2, receiver);
+    }
+    if !is_frame(kind, number) {
+        return refuse_clock(12, receiver);
+    }
+    receive_bits(short, long, receiver, frame_bits(kind), number)
+}
+
+// A whole frame over these columns, whose kind is given by its format bit.
+fn receive_by_format_over(
+    short: &[u8],
+    long: &[u8],
+    receiver: Receiver,
+    format: u8,
+    number: u64,
+) -> ClockAnswer
+    ensures { λ r. ⌜ r ≡ receiveByFormat (columnsFor (inUse (now (short .entry))) (inUse (now (long .entry)))) receiver format number ⌝ }
+{
+    if format > 1 {
+        if !well_formed(receiver) {
+            return refuse_clock(2, receiver);
+        }
+        return refuse_clock(12, receiver);
+    }
+    receive_over(short, long, receiver, kind_of(format), number)
 }
 
 // One clock, with a bit of channel A, the trigger, and one of channel B, the data.
@@ -109,7 +204,7 @@ pub fn receive_frame_with_columns(
     if checked.refusal != 0 {
         return refuse_with_index(receiver, checked);
     }
-    let answer = receive_frame_over(&columns[..8], &columns[8..40], receiver, kind, number);
+    let answer = receive_over(&columns[..8], &columns[8..40], receiver, kind, number);
     ClockWithIndex { answer, index: 0 }
 }
 

@@ -1,7 +1,7 @@
 // Document 01, "Frames on channel B" and "One clock": a whole frame sent to a receiver in one call.
 //
-// The state goes by value, in and out: see `receiver_state`. Columns are only read, and are lent: below
-// the functions without columns, which pass document 01's table down, every function takes them.
+// The state goes by value, in and out: see `receiver_state`. Columns are only read, and are lent: the
+// public function passes document 01's table down.
 ghost use mathlib.Core.Path.{_≡_};
 ghost use mathlib.Core.Bool.{true};
 ghost use Prim.Native.Nat.{_<_, _≤_, _/_, _%_, _^_};
@@ -45,22 +45,16 @@ fn bit_at(number: u64, place: u8) -> u8
     ((number >> place) % 2) as u8
 }
 
-// The unchecked step, by its parts, for all but the single clock: a second caller of `step` would keep
-// it from being inlined there (docs/DECISIONS.md).
-pub fn step_apart(
-    short: &[u8],
-    long: &[u8],
-    receiver: Receiver,
-    trigger: u8,
-    data: u8,
-) -> ClockAnswer
-    ensures { λ r. ⌜ r ≡ stepAnswer (columnsFor (inUse (now (short .entry))) (inUse (now (long .entry)))) receiver trigger «data» ⌝ }
+// One bit on a clock without a trigger: the unchecked step, by its parts. A second caller of `step`
+// would keep it from being inlined into the single clock (docs/DECISIONS.md).
+fn receive_bit(short: &[u8], long: &[u8], receiver: Receiver, bit: u8) -> ClockAnswer
+    ensures { λ r. ⌜ r ≡ stepAnswer (columnsFor (inUse (now (short .entry))) (inUse (now (long .entry)))) receiver 0 bit ⌝ }
 {
-    let taken = take_bit(receiver.held, data);
+    let taken = take_bit(receiver.held, bit);
     match taken {
-        Taken::Unfinished(held) => answered(idle_clock(receiver.core, trigger), held),
+        Taken::Unfinished(held) => answered(idle_clock(receiver.core, 0), held),
         Taken::Finished { kind, number } => {
-            let idle = idle_clock(receiver.core, trigger);
+            let idle = idle_clock(receiver.core, 0);
             let frame = decode_finished(short, long, kind, number);
             answered(finish(kind, frame, idle), held_after(number))
         }
@@ -85,7 +79,7 @@ fn receive_bits(
     while left > 0 {
         left -= 1;
         let bit = bit_at(number, left);
-        answer = step_apart(short, long, answer.receiver, 0, bit);
+        answer = receive_bit(short, long, answer.receiver, bit);
     }
     answer
 }
@@ -124,15 +118,9 @@ pub fn after_41_ones(core: Core) -> Receiver
     Receiver { core: after, held }
 }
 
-// A whole frame, one bit a clock, without triggers, over these columns: the answer of its last clock.
-pub fn receive_frame_over(
-    short: &[u8],
-    long: &[u8],
-    receiver: Receiver,
-    kind: Kind,
-    number: u64,
-) -> ClockAnswer
-    ensures { λ r. ⌜ r ≡ receiveAnswer (columnsFor (inUse (now (short .entry))) (inUse (now (long .entry)))) receiver kind number ⌝ }
+// A whole frame, one bit a clock, without triggers: the answer of its last clock.
+pub fn receive_frame(receiver: Receiver, kind: Kind, number: u64) -> ClockAnswer
+    ensures { λ r. ⌜ r ≡ receiveAnswer columnsOf receiver kind number ⌝ }
 {
     if !well_formed(receiver) {
         return refuse_clock(2, receiver);
@@ -140,23 +128,16 @@ pub fn receive_frame_over(
     if !is_frame(kind, number) {
         return refuse_clock(12, receiver);
     }
-    if is_waiting(receiver.held) {
-        return receive_waiting(short, long, receiver, kind, number);
-    }
-    receive_bits(short, long, receiver, frame_bits(kind), number)
-}
-
-// The same over document 01's table.
-pub fn receive_frame(receiver: Receiver, kind: Kind, number: u64) -> ClockAnswer
-    ensures { λ r. ⌜ r ≡ receiveAnswer columnsOf receiver kind number ⌝ }
-{
     let short = column_table();
     let long = column_table();
-    receive_frame_over(&short[..8], &long, receiver, kind, number)
+    if is_waiting(receiver.held) {
+        return receive_waiting(&short[..8], &long, receiver, kind, number);
+    }
+    receive_bits(&short[..8], &long, receiver, frame_bits(kind), number)
 }
 
 // The kind of frame with this format bit; any number but 0 counts as 1.
-fn kind_of(format: u8) -> Kind
+pub fn kind_of(format: u8) -> Kind
     ensures { λ r. ⌜ r ≡ kindOf format ⌝ }
 {
     if format == 0 {
@@ -165,16 +146,9 @@ fn kind_of(format: u8) -> Kind
     Kind::Long
 }
 
-// A whole frame whose kind is given by its format bit, as a line that was read has it, over these
-// columns.
-pub fn receive_by_format_over(
-    short: &[u8],
-    long: &[u8],
-    receiver: Receiver,
-    format: u8,
-    number: u64,
-) -> ClockAnswer
-    ensures { λ r. ⌜ r ≡ receiveByFormat (columnsFor (inUse (now (short .entry))) (inUse (now (long .entry)))) receiver format number ⌝ }
+// A whole frame whose kind is given by its format bit, as a line that was read has it.
+pub fn receive_by_format(receiver: Receiver, format: u8, number: u64) -> ClockAnswer
+    ensures { λ r. ⌜ r ≡ receiveByFormat columnsOf receiver format number ⌝ }
 {
     if format > 1 {
         if !well_formed(receiver) {
@@ -182,14 +156,5 @@ pub fn receive_by_format_over(
         }
         return refuse_clock(12, receiver);
     }
-    receive_frame_over(short, long, receiver, kind_of(format), number)
-}
-
-// The same over document 01's table.
-pub fn receive_by_format(receiver: Receiver, format: u8, number: u64) -> ClockAnswer
-    ensures { λ r. ⌜ r ≡ receiveByFormat columnsOf receiver format number ⌝ }
-{
-    let short = column_table();
-    let long = column_table();
-    receive_by_format_over(&short[..8], &long, receiver, format, number)
+    receive_frame(receiver, kind_of(format), number)
 }

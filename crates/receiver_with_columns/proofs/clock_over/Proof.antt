@@ -29,12 +29,12 @@ returns-3 : tie.Need-returns-3
 unfolding clockAnswer
 returns-3 c = search picks
 
-step-apart-requires : tie.Need-step-apart-requires
-step-apart-requires c κs = search needs
+step-over-requires : tie.Need-step-over-requires
+step-over-requires c κs = search needs
 
 returns-4 : tie.Need-returns-4
 unfolding clockAnswer
-returns-4 c = rw (c .step-apart .ensures) (search picks)
+returns-4 c = rw (c .step-over .ensures) (search picks)
 
 pub clock-over-spec : {M : Type 1} → statement M
 clock-over-spec =
@@ -47,5 +47,5 @@ clock-over-spec =
     returns-2
     refuse-clock-requires-3
     returns-3
-    step-apart-requires
+    step-over-requires
     returns-4)

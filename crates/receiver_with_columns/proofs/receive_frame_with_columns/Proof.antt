@@ -31,27 +31,27 @@ returns : tie.Need-returns
 unfolding receiveWithColumns
 returns c = c .refuse-with-index .ensures ∙ refused-clock _ _ _ (c .before .before .before .check-columns .ensures) (c .before .if1 .taken) _
 
-slice-aggregate-receive-frame-over : tie.Need-slice-aggregate-receive-frame-over
-slice-aggregate-receive-frame-over c = sym (length-take-le 8 (c .before .before .before .before .before .args .columns .now) (rw (whole-table _ _ (c .before .before .before .check-columns .ensures) (c .before .if1 .left)) (lit≤ tt)))
+slice-aggregate-receive-over : tie.Need-slice-aggregate-receive-over
+slice-aggregate-receive-over c = sym (length-take-le 8 (c .before .before .before .before .before .args .columns .now) (rw (whole-table _ _ (c .before .before .before .check-columns .ensures) (c .before .if1 .left)) (lit≤ tt)))
 
-sub-receive-frame-over : tie.Need-sub-receive-frame-over
-sub-receive-frame-over c = search needs
+sub-receive-over : tie.Need-sub-receive-over
+sub-receive-over c = search needs
 
-part-receive-frame-over-start : tie.Need-part-receive-frame-over-start
-part-receive-frame-over-start c = search needs
+part-receive-over-start : tie.Need-part-receive-over-start
+part-receive-over-start c = search needs
 
-part-receive-frame-over-end : tie.Need-part-receive-frame-over-end
-part-receive-frame-over-end c = rw (whole-table _ _ (c .before .before .before .check-columns .ensures) (c .before .if1 .left)) (lit≤ tt)
+part-receive-over-end : tie.Need-part-receive-over-end
+part-receive-over-end c = rw (whole-table _ _ (c .before .before .before .check-columns .ensures) (c .before .if1 .left)) (lit≤ tt)
 
-receive-frame-over-requires : tie.Need-receive-frame-over-requires
-receive-frame-over-requires c κs = search needs
+receive-over-requires : tie.Need-receive-over-requires
+receive-over-requires c κs = search needs
 
 returns-2 : tie.Need-returns-2
 unfolding receiveWithColumns
 returns-2 c =
     let given = c .before .before .before .before .before .before .before .args in
     let checked = c .before .before .before .before .before .check-columns in
-    ap (λ (answer : ClockAnswer). clockWithIndex answer) (c .receive-frame-over .ensures ∙ ap (λ (columns : Kind → List ℕ). receiveAnswer columns (given .receiver) (given .kind) (given .number)) (lent-in-use (given .columns .now)))
+    ap (λ (answer : ClockAnswer). clockWithIndex answer) (c .receive-over .ensures ∙ ap (λ (columns : Kind → List ℕ). receiveAnswer columns (given .receiver) (given .kind) (given .number)) (lent-in-use (given .columns .now)))
     ∙ accepted-clock _ _ _ (ap (λ (a : ColumnsAnswer). a .refusal) (sym (checked .ensures)) ∙ c .before .before .before .if1 .left) (λ bad. receive-by-2 _ _ bad _ _)
 
 pub receive-frame-with-columns-spec : {M : Type 1} → statement M
@@ -61,9 +61,9 @@ receive-frame-with-columns-spec =
     check-columns-requires
     refuse-with-index-requires
     returns
-    slice-aggregate-receive-frame-over
-    sub-receive-frame-over
-    part-receive-frame-over-start
-    part-receive-frame-over-end
-    receive-frame-over-requires
+    slice-aggregate-receive-over
+    sub-receive-over
+    part-receive-over-start
+    part-receive-over-end
+    receive-over-requires
     returns-2)

@@ -37,8 +37,8 @@ sub-left c = search needs
 bit-at-requires : tie.Need-bit-at-requires Inv-loop μ-loop
 bit-at-requires c κs = search needs
 
-step-apart-requires : tie.Need-step-apart-requires Inv-loop μ-loop
-step-apart-requires c κs = search needs
+receive-bit-requires : tie.Need-receive-bit-requires Inv-loop μ-loop
+receive-bit-requires c κs = search needs
 
 loop-less : tie.Need-loop-less Inv-loop μ-loop
 loop-less c = search needs
@@ -52,8 +52,8 @@ loop-again c =
     let small : bit .result < 2 = rw (bit .ensures) (mod-lt _ (lit< tt)) in
     let some : suc (turn .left - 1) ≡ turn .left = omega (arith, c .before .before .loop-test .taken) in (
       omega (arith, turn .inv .0),
-      subst (λ (a : ClockAnswer). ReceiverFacts (a .receiver)) (sym (c .step-apart .ensures)) (step-facts columns (turn .answer .receiver) 0 (bit .result) (turn .inv .1) small),
-      clock-more columns (turn .answer) (c .step-apart .result) (turn .left - 1) (given .number) (bit .result) (turn .inv .1) (bit .ensures) (c .step-apart .ensures)
+      subst (λ (a : ClockAnswer). ReceiverFacts (a .receiver)) (sym (c .receive-bit .ensures)) (step-facts columns (turn .answer .receiver) 0 (bit .result) (turn .inv .1) small),
+      clock-more columns (turn .answer) (c .receive-bit .result) (turn .left - 1) (given .number) (bit .result) (turn .inv .1) (bit .ensures) (c .receive-bit .ensures)
           ∙ ap (λ (n : ℕ). clocksAnswer columns (turn .answer) (bitsOf n (given .number))) some ∙ turn .inv .2,
     )
 
@@ -76,7 +76,7 @@ receive-bits-spec =
     loop-holds
     sub-left
     bit-at-requires
-    step-apart-requires
+    receive-bit-requires
     loop-less
     loop-again
     returns)

@@ -1,10 +1,10 @@
--- `whole_frame::step_apart` meets its contract: it goes by what the bit leaves. Assumes nothing.
+-- `receiver_with_columns::step_over` meets its contract: it goes by what the bit leaves. Assumes nothing.
 use mathlib.Core.Path.{sym, ap, ap₂, _∙_}
 use Rattle.receiver.specs.Clock.{clockedAnswer}
 use Rattle.receiver.proofs.Unchecked.{unfinished-step, finished-step}
 use borrow.Author.Needs.{needs}
-use Rattle.whole_frame.proofs.step_apart.Statement.{statement}
-use Rattle.whole_frame.proofs.step_apart.Tie as tie
+use Rattle.receiver_with_columns.proofs.step_over.Statement.{statement}
+use Rattle.receiver_with_columns.proofs.step_over.Tie as tie
 
 take-bit-requires : tie.Need-take-bit-requires
 take-bit-requires c κs = search needs
@@ -52,8 +52,8 @@ returns-2 c =
     (rw (c .before .before .before .before .idle-clock2 .ensures, c .before .before .before .decode-finished .ensures) at (c .before .before .finish .ensures))
     ∙ sym (finished-step _ (given .receiver) (given .trigger) (given .«data») _ _ (sym (bit .take-bit .ensures) ∙ c .before .before .before .before .before .before .taken2 .given .1))
 
-pub step-apart-spec : {M : Type 1} → statement M
-step-apart-spec =
+pub step-over-spec : {M : Type 1} → statement M
+step-over-spec =
     tie.close
     (tie.spec
     take-bit-requires

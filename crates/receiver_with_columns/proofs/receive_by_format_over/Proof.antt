@@ -1,15 +1,15 @@
--- `whole_frame::receive_by_format_over` meets its contract: at each exit the tests that led there pick the same row of the definition. Assumes nothing.
+-- `receiver_with_columns::receive_by_format_over` meets its contract: at each exit the tests that led there pick the same row of the definition. Assumes nothing.
 use mathlib.Core.Path.{ap, _∙_}
 use Rattle.laws.proofs.Rules.{picks}
 use Rattle.frame.specs.declared.Kind.{Kind}
 use Rattle.hamming.specs.Code.{inUse}
 use Rattle.frame.specs.Columns.{columnsFor}
 use Rattle.whole_frame.specs.WholeFrame.{receiveAnswer}
 use Rattle.whole_frame.specs.ByFormat.{receiveByFormat}
 use Rattle.whole_frame.proofs.ByFormatLaws.{accepted-format}
 use borrow.Author.Needs.{needs}
-use Rattle.whole_frame.proofs.receive_by_format_over.Statement.{statement}
-use Rattle.whole_frame.proofs.receive_by_format_over.Tie as tie
+use Rattle.receiver_with_columns.proofs.receive_by_format_over.Statement.{statement}
+use Rattle.receiver_with_columns.proofs.receive_by_format_over.Tie as tie
 
 well-formed-requires : tie.Need-well-formed-requires
 well-formed-requires c κs = search needs
@@ -31,14 +31,14 @@ returns-2 c = search picks
 kind-of-requires : tie.Need-kind-of-requires
 kind-of-requires c κs = search needs
 
-receive-frame-over-requires : tie.Need-receive-frame-over-requires
-receive-frame-over-requires c κs = search needs
+receive-over-requires : tie.Need-receive-over-requires
+receive-over-requires c κs = search needs
 
 returns-3 : tie.Need-returns-3
 returns-3 c =
     let given = c .before .before .before .before .before .args in
     let columns = columnsFor (inUse (given .short .now)) (inUse (given .long .now)) in
-    c .receive-frame-over .ensures
+    c .receive-over .ensures
     ∙ ap (λ (kind : Kind). receiveAnswer columns (given .receiver) kind (given .number)) (c .before .kind-of .ensures)
     ∙ accepted-format columns (given .receiver) (given .format) (given .number) (c .before .before .if1 .left)
 
@@ -52,5 +52,5 @@ receive-by-format-over-spec =
     refuse-clock-requires-2
     returns-2
     kind-of-requires
-    receive-frame-over-requires
+    receive-over-requires
     returns-3)
