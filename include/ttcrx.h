@@ -14,9 +14,9 @@
  * A function that is lent characters, bytes, columns or a buffer takes a pointer and a length in
  * elements. What the caller must ensure: the pointer is aligned and valid for that length, for writing
  * too where it is not const, and is not null unless the length is 0; it spans at most PTRDIFF_MAX
- * bytes; a lent receiver is one element; two regions lent to one call do not overlap; and while the
- * function runs, nothing else writes those elements, nor reads those that are lent for writing.
- * Characters may be any bytes, and no zero byte ends them.
+ * bytes; a lent receiver is one element; a region that is lent for writing overlaps no other that is
+ * lent to the call; and while the function runs, nothing else writes those elements, nor reads those
+ * that are lent for writing. Characters may be any bytes, and no zero byte ends them.
  *
  * A frame is a number whose most significant bit is sent first. A short frame (broadcast) has 16 bits:
  * start bit 0, format bit 0, a word of 8, 5 check bits, stop bit 1. A long frame (individually
@@ -71,8 +71,8 @@ uint32_t ttcrx_version(void);
 #define TTCRX_REFUSED_BLOCK_LENGTH 15  /* a block of more than TTCRX_BLOCK_CLOCKS bytes */
 #define TTCRX_REFUSED_RECORD_BUFFER 16 /* fewer than five numbers of room for each byte of a block */
 #define TTCRX_REFUSED_NO_SETTING 17    /* a write to 0 or 1: the byte belongs to no fine delay setting */
-#define TTCRX_REFUSED_COLUMNS 27       /* lent columns that are not 40 */
-#define TTCRX_REFUSED_COLUMN 28        /* a lent column that is bad: the index tells the first */
+#define TTCRX_REFUSED_COLUMN_COUNT 27  /* not 40 lent columns */
+#define TTCRX_REFUSED_BAD_COLUMN 28    /* a lent column that is bad: the index tells the first */
 
 /*
  * Verdicts on a finished frame, the field verdict of a clock's outputs. 1 to 4 were executed; 7, 8, 9
@@ -370,9 +370,10 @@ typedef struct ttcrx_reported {
  *
  * Refusals of these functions, in this order: 2, where a receiver is given or lent and is not well
  * formed; 27: not TTCRX_COLUMNS numbers; 28: a bad column; then those of the function without columns.
- * All columns are checked at each call, whatever it needs of them. The answer is that of the function
- * without columns, with the index of the first bad column beside it, counted from 0 over both groups;
- * it is 0 but with refusal 28. With the library's own columns,
+ * All columns are checked at each call, whatever it needs of them. The answer is what the function
+ * without columns would answer if these columns were the library's, with the index of the first bad
+ * column beside it, counted from 0 over both groups; it is 0 but with refusal 28. What is said here of
+ * wrong bits holds if the sender used the same columns. With the library's own,
  *
  *     7, 11, 13, 14, 19, 21, 22, 25,
  *     7, 11, 13, 14, 19, 21, 22, 25, 26, 28, 35, 37, 38, 41, 42, 44,

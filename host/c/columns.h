@@ -53,13 +53,13 @@ static void check_columns_at_every_index(void)
         const uint8_t bad[6] = {0, 16, 3, 15, (uint8_t)(is_short ? 35 : 131), 255};
         size_t i;
         for (i = 0; i < sizeof bad; i++) {
-            CHECK(columns_are(LENT(with_column(index, bad[i])), TTCRX_REFUSED_COLUMN,
+            CHECK(columns_are(LENT(with_column(index, bad[i])), TTCRX_REFUSED_BAD_COLUMN,
                               (uint8_t)index));
         }
         if (index != first) {
-            CHECK(columns_are(LENT(with_column(index, their_columns[first])), TTCRX_REFUSED_COLUMN,
+            CHECK(columns_are(LENT(with_column(index, their_columns[first])), TTCRX_REFUSED_BAD_COLUMN,
                               (uint8_t)index));
-            CHECK(columns_are(LENT(with_column(first, their_columns[index])), TTCRX_REFUSED_COLUMN,
+            CHECK(columns_are(LENT(with_column(first, their_columns[index])), TTCRX_REFUSED_BAD_COLUMN,
                               (uint8_t)index));
         }
     }
@@ -71,11 +71,11 @@ static void check_columns_and_lengths(void)
     size_t length;
     CHECK(columns_are(LENT(own_columns), TTCRX_ACCEPTED, 0));
     CHECK(columns_are(LENT(their_columns), TTCRX_ACCEPTED, 0));
-    CHECK(columns_are(NULL, 0, TTCRX_REFUSED_COLUMNS, 0));
-    CHECK(columns_are(their_columns, TTCRX_COLUMNS - 1, TTCRX_REFUSED_COLUMNS, 0));
+    CHECK(columns_are(NULL, 0, TTCRX_REFUSED_COLUMN_COUNT, 0));
+    CHECK(columns_are(their_columns, TTCRX_COLUMNS - 1, TTCRX_REFUSED_COLUMN_COUNT, 0));
     for (length = 0; length <= sizeof many; length++) {
         const uint8_t refusal =
-            length == TTCRX_COLUMNS ? TTCRX_REFUSED_COLUMN : TTCRX_REFUSED_COLUMNS;
+            length == TTCRX_COLUMNS ? TTCRX_REFUSED_BAD_COLUMN : TTCRX_REFUSED_COLUMN_COUNT;
         CHECK(columns_are(many, length, refusal, 0));
     }
 }
@@ -100,13 +100,13 @@ static void check_encoders_with_columns(void)
     CHECK(encoded_with(ttcrx_encode_long_with_columns(LENT(their_columns), 16384, 0, 0, 0),
                        TTCRX_REFUSED_FIELD, 0, 0));
     CHECK(encoded_with(ttcrx_encode_long_with_columns(their_columns, 39, 0, 2, 0, 0),
-                       TTCRX_REFUSED_COLUMNS, 0, 0));
+                       TTCRX_REFUSED_COLUMN_COUNT, 0, 0));
     bad = with_column(39, 8); /* of a long frame: also refused for a short one */
-    CHECK(encoded_with(ttcrx_encode_short_with_columns(LENT(bad), 0x01), TTCRX_REFUSED_COLUMN, 39,
+    CHECK(encoded_with(ttcrx_encode_short_with_columns(LENT(bad), 0x01), TTCRX_REFUSED_BAD_COLUMN, 39,
                        0));
-    CHECK(encoded_with(ttcrx_encode_long_with_columns(LENT(bad), 0, 2, 0, 0), TTCRX_REFUSED_COLUMN,
+    CHECK(encoded_with(ttcrx_encode_long_with_columns(LENT(bad), 0, 2, 0, 0), TTCRX_REFUSED_BAD_COLUMN,
                        39, 0));
-    CHECK(encoded_with(ttcrx_encode_short_with_columns(bad, 39, 0x01), TTCRX_REFUSED_COLUMNS,
+    CHECK(encoded_with(ttcrx_encode_short_with_columns(bad, 39, 0x01), TTCRX_REFUSED_COLUMN_COUNT,
                        0, 0));
 }
 
@@ -146,13 +146,13 @@ static void check_refused_decoders(void)
     CHECK(decoding_refused(ttcrx_decode_long_with_columns(LENT(their_columns), 0x007F),
                            TTCRX_REFUSED_FRAME, 0));
     CHECK(decoding_refused(ttcrx_decode_short_with_columns(LENT(with_column(20, 8)), 0x4001),
-                           TTCRX_REFUSED_COLUMN, 20));
+                           TTCRX_REFUSED_BAD_COLUMN, 20));
     CHECK(decoding_refused(ttcrx_decode_long_with_columns(LENT(with_column(3, 8)), 0),
-                           TTCRX_REFUSED_COLUMN, 3));
-    CHECK(decoding_refused(ttcrx_decode_short_with_columns(NULL, 0, 0x4001), TTCRX_REFUSED_COLUMNS,
+                           TTCRX_REFUSED_BAD_COLUMN, 3));
+    CHECK(decoding_refused(ttcrx_decode_short_with_columns(NULL, 0, 0x4001), TTCRX_REFUSED_COLUMN_COUNT,
                            0));
     CHECK(decoding_refused(ttcrx_decode_long_with_columns(with_column(3, 8), 39, 0),
-                           TTCRX_REFUSED_COLUMNS, 0));
+                           TTCRX_REFUSED_COLUMN_COUNT, 0));
 }
 
 static int refused_with(ttcrx_clock_with_index answer, uint8_t refusal, uint8_t index,
@@ -178,9 +178,9 @@ static void check_clocks_with_columns(void)
     CHECK(refused_with(ttcrx_clock_with_columns(ill_formed, LENT(with_column(9, 0)), 0, 1),
                        TTCRX_REFUSED_STATE, 0, ill_formed));
     CHECK(refused_with(ttcrx_clock_with_columns(front, with_column(0, 0), 39, 2, 2),
-                       TTCRX_REFUSED_COLUMNS, 0, front));
+                       TTCRX_REFUSED_COLUMN_COUNT, 0, front));
     CHECK(refused_with(ttcrx_clock_with_columns(fresh_5, LENT(with_column(9, 0)), 2, 2),
-                       TTCRX_REFUSED_COLUMN, 9, fresh_5));
+                       TTCRX_REFUSED_BAD_COLUMN, 9, fresh_5));
     CHECK(refused_with(ttcrx_clock_with_columns(front, LENT(their_columns), 0, 2),
                        TTCRX_REFUSED_BIT, 0, front));
 }
@@ -199,12 +199,12 @@ static void check_whole_frames_with_columns(void)
     CHECK(received(by_kind.answer, TTCRX_VERDICT_EVEN_SYNDROME, 0, 0) && by_kind.index == 0);
     CHECK(refused_with(ttcrx_receive_with_columns(ill_formed, NULL, 0, 2, 0), TTCRX_REFUSED_STATE,
                        0, ill_formed));
-    CHECK(refused_with(ttcrx_receive_with_columns(fresh_5, NULL, 0, 2, 0), TTCRX_REFUSED_COLUMNS, 0,
+    CHECK(refused_with(ttcrx_receive_with_columns(fresh_5, NULL, 0, 2, 0), TTCRX_REFUSED_COLUMN_COUNT, 0,
                        fresh_5));
     CHECK(refused_with(ttcrx_receive_short_with_columns(fresh_5, LENT(with_column(30, 6)), 0x4001),
-                       TTCRX_REFUSED_COLUMN, 30, fresh_5));
+                       TTCRX_REFUSED_BAD_COLUMN, 30, fresh_5));
     CHECK(refused_with(ttcrx_receive_long_with_columns(fresh_5, LENT(with_column(1, 31)), 0),
-                       TTCRX_REFUSED_COLUMN, 1, fresh_5));
+                       TTCRX_REFUSED_BAD_COLUMN, 1, fresh_5));
     CHECK(refused_with(ttcrx_receive_with_columns(fresh_5, LENT(their_columns), 2, THEIR_35),
                        TTCRX_REFUSED_FRAME, 0, fresh_5));
 }
@@ -254,16 +254,16 @@ static void check_refused_blocks_with_columns(void)
     unwrite();
     CHECK(block_is(run_lent(bad_state, NULL, 0, MOST, 0), TTCRX_REFUSED_STATE, 0, 0));
     CHECK(block_is(run_lent(bad_state, LENT(with_column(5, 0)), 1, 5), TTCRX_REFUSED_STATE, 0, 0));
-    CHECK(block_is(run_lent(fresh, their_columns, 39, MOST, 0), TTCRX_REFUSED_COLUMNS, 0, 0));
-    CHECK(block_is(run_lent(fresh, LENT(with_column(5, 0)), MOST, 0), TTCRX_REFUSED_COLUMN, 5, 0));
+    CHECK(block_is(run_lent(fresh, their_columns, 39, MOST, 0), TTCRX_REFUSED_COLUMN_COUNT, 0, 0));
+    CHECK(block_is(run_lent(fresh, LENT(with_column(5, 0)), MOST, 0), TTCRX_REFUSED_BAD_COLUMN, 5, 0));
     CHECK(block_is(run_lent(fresh, LENT(their_columns), MOST, 0), TTCRX_REFUSED_BLOCK_LENGTH, 0,
                    0));
     CHECK(block_is(run_lent(fresh, LENT(their_columns), 3, 14), TTCRX_REFUSED_RECORD_BUFFER, 0, 0));
     CHECK(block_is(run_lent(fresh, LENT(their_columns), 3, 15), TTCRX_REFUSED_BIT, 0, 0));
     CHECK(block_is(ttcrx_run_block_with_columns(fresh, NULL, 0, NULL, 0, NULL, 0),
-                   TTCRX_REFUSED_COLUMNS, 0, 0));
+                   TTCRX_REFUSED_COLUMN_COUNT, 0, 0));
     CHECK(block_is(ttcrx_run_block_with_columns(fresh, LENT(with_column(8, 1)), NULL, 0, NULL, 0),
-                   TTCRX_REFUSED_COLUMN, 8, 0));
+                   TTCRX_REFUSED_BAD_COLUMN, 8, 0));
     CHECK(block_is(ttcrx_run_block_with_columns(&receiver, LENT(own_columns), NULL, 0, NULL, 0),
                    TTCRX_ACCEPTED, 0, 0));
     CHECK(only_records(0) && same_state(receiver, fresh_5));

@@ -23,8 +23,8 @@ pub const REFUSED_LINE_BUFFER: u8 = 14;
 pub const REFUSED_BLOCK_LENGTH: u8 = 15;
 pub const REFUSED_RECORD_BUFFER: u8 = 16;
 pub const REFUSED_NO_SETTING: u8 = 17;
-pub const REFUSED_COLUMNS: u8 = 27;
-pub const REFUSED_COLUMN: u8 = 28;
+pub const REFUSED_COLUMN_COUNT: u8 = 27;
+pub const REFUSED_BAD_COLUMN: u8 = 28;
 
 pub const VERDICT_NONE: u8 = 0;
 pub const VERDICT_BROADCAST: u8 = 1;

@@ -133,8 +133,8 @@ fn refusals() -> Vec<(&'static str, u8)> {
         ("REFUSED_BLOCK_LENGTH", idle_block(clocks + 1, numbers + 5).refusal),
         ("REFUSED_RECORD_BUFFER", idle_block(clocks, numbers - 1).refusal),
         ("REFUSED_NO_SETTING", ttcrx::write(fresh(), 1, 240).refusal),
-        ("REFUSED_COLUMNS", ttcrx::check_columns(&OWN[1..]).refusal),
-        ("REFUSED_COLUMN", ttcrx::check_columns(&[7; ttcrx::COLUMNS]).refusal),
+        ("REFUSED_COLUMN_COUNT", ttcrx::check_columns(&OWN[1..]).refusal),
+        ("REFUSED_BAD_COLUMN", ttcrx::check_columns(&[7; ttcrx::COLUMNS]).refusal),
     ]
 }
 

@@ -89,7 +89,7 @@ pub fn is_frame(kind: Kind, number: u64) -> bool
     }
 }
 
-// The frame of a word, with its check bits and stop bit.
+// The frame of a word, with its check bits and stop bit. The columns are not checked here.
 pub fn encode_word(columns: &[u8], kind: Kind, word: u32) -> u64
     ensures { λ r. ⌜ r ≡ encodeWord (inUse (now (columns .entry))) kind word ⌝ }
 {

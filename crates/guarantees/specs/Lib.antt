@@ -8,4 +8,4 @@ pub mod FineDelays
 pub mod Existence
 pub mod Examples
 pub mod Blocks
-pub mod LentColumns
+pub mod WithColumns

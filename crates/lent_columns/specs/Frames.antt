@@ -7,6 +7,7 @@ use mathlib.Core.Bool.{cond}
 use mathlib.Core.List.{List, _++_}
 use lib.Dec.{eqb}
 use Rattle.hamming.specs.Columns.{shortColumns, longColumns}
+use Rattle.hamming.specs.Correction.{Corrects}
 use Rattle.frame.specs.declared.Kind.{Kind}
 use Rattle.frame.specs.declared.Kind.the-variants.{Short, Long}
 use Rattle.frame.specs.declared.Encoded.{Encoded}
@@ -14,7 +15,9 @@ use Rattle.frame.specs.declared.Answer.{Answer}
 use Rattle.frame.specs.Columns.{columnsOf}
 use Rattle.frame.specs.Encode.{encodeShort, encodeLong}
 use Rattle.frame.specs.Decode.{bareAnswer, decodeFrame}
-use Rattle.frame.specs.Frames.{FrameFacts}
+use Rattle.frame.specs.declared.Fields.{Fields}
+use Rattle.frame.specs.Numbers.{checkBits}
+use Rattle.frame.specs.Frames.{InRange, fieldsAnswer, FrameFacts}
 use Rattle.lent_columns.specs.declared.ColumnsAnswer.{ColumnsAnswer}
 use Rattle.lent_columns.specs.declared.EncodedWithIndex.{EncodedWithIndex}
 use Rattle.lent_columns.specs.declared.DecodedWithIndex.{DecodedWithIndex}
@@ -59,7 +62,7 @@ encodedWith index answer = record { answer = answer; index = index }
 abbrev pub decodedWith : ℕ → Answer → DecodedWithIndex
 decodedWith index answer = record { answer = answer; index = index }
 
--- with this table, those of the functions without columns over these columns, and index 0
+-- with this table, what the definitions of the functions without columns give over these columns, and index 0
 pub record FramesOver (columns : Kind → List ℕ) (table : List ℕ) : Type 0 where
   pub encode-short : (byte : ℕ) → encodeShortWithColumns table byte ≡ encodedWith 0 (encodeShort (columns Short) byte)
   pub encode-long : (address e sub byte : ℕ)
@@ -74,10 +77,20 @@ pub record FramesRefused (refusal index : ℕ) (table : List ℕ) : Type 0 where
 
 -- ---- the statements
 
+-- the encoder with columns of each kind of frame
+abbrev pub encodeWithColumns : List ℕ → Kind → Fields → EncodedWithIndex
+encodeWithColumns table Short fields = encodeShortWithColumns table (fields .«data»)
+encodeWithColumns table Long fields = encodeLongWithColumns table (fields .address) (fields .e) (fields .sub) (fields .«data»)
+
 pub record FramesWithColumns (table : List ℕ) : Type 0 where
-  -- "Prove the correction facts once over every such table": a table that passes has all of them
+  -- a table that passes: so all that is said below of the definitions over its columns is said of the functions with columns
   pub accepted : Passes table → FramesOver (lentColumns table) table
+  -- "Prove the correction facts once over every such table", and what follows from them of frames
+  pub corrects : Passes table → (kind : Kind) → Corrects (checkBits kind) (lentColumns table kind)
   pub facts : Passes table → (kind : Kind) → FrameFacts (lentColumns table kind) kind
+  -- demand 2, "decoding what was encoded gives the fields back"
+  pub round-trip : Passes table → (kind : Kind) (fields : Fields) → InRange kind fields
+      → decodeWithColumns table kind (encodeWithColumns table kind fields .answer .number) ≡ decodedWith 0 (fieldsAnswer kind 0 0 fields)
   pub refused : checkColumns table .refusal ≢ 0 → FramesRefused (checkColumns table .refusal) (checkColumns table .index) table
 
 abbrev pub FramesTheorem : Type 0

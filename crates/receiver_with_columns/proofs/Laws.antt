@@ -24,8 +24,10 @@ use Rattle.receiver.proofs.Laws.{clock-theorem}
 use Rattle.trace.specs.Block.{BlockDone, refusedBlock, runBlock, RefusedKeeps}
 use Rattle.trace.proofs.Refused.{refused-keeps}
 use Rattle.whole_frame.proofs.WholeFrameLaw.{whole-frame-theorem}
-use Rattle.receiver_with_columns.specs.WithColumns.{refusedBefore, clockWithColumns, receiveWithColumns, receiveByFormatWithColumns, runBlockWithColumns}
-use Rattle.receiver_with_columns.specs.Laws.{Over, AllRefused, RefusedLeaves, WithColumnsTheorem, LawsTheorem, OwnReceiver}
+use Rattle.whole_frame.proofs.ByFormatLaws.{format-theorem}
+use Rattle.frame.specs.Numbers.{formatBit}
+use Rattle.receiver_with_columns.specs.WithColumns.{refusedBefore, unlessRefusedClock, clockWithColumns, receiveWithColumns, receiveByFormatWithColumns, runBlockWithColumns}
+use Rattle.receiver_with_columns.specs.Laws.{Over, AllRefused, RefusedLeaves, WithColumnsTheorem, LawsTheorem, LastClockDecides, OwnReceiver, clockedWith}
 use Rattle.receiver_with_columns.proofs.Before.{clock-by-2, receive-by-2, format-by-2, block-by-2, accepted-clock, accepted-block}
 
 module _ (r : Receiver) (table : List ℕ) where
@@ -77,19 +79,31 @@ module _ (r : Receiver) (table : List ℕ) where
         (λ e. rw e (λ n. record { receiver-stays = refl; no-records = refl; buffer-stays = refl }));
   }
 
+  kind-by-format : (kind : Kind) (number : ℕ) → receiveByFormatWithColumns r table (formatBit kind) number ≡ receiveWithColumns r table kind number
+  unfolding receiveByFormatWithColumns receiveWithColumns
+  kind-by-format kind number = ap (unlessRefusedClock r table) (format-theorem (lentColumns table) .of-a-kind r kind number)
+
 pub with-columns : WithColumnsTheorem
 with-columns r table = record {
   accepted = over r table;
   refused-first = first r table;
   refused-then = then r table;
   leaves = leaves r table;
+  kind-by-format = kind-by-format r table;
 }
 
 pub laws-over : LawsTheorem
 laws-over table p = let good = check-theorem table .passes-exactly .0 p .1 in record {
   clocks = clock-theorem (lentColumns table) good;
   whole-frames = whole-frame-theorem (lentColumns table) good;
+  formats = format-theorem (lentColumns table);
 }
+
+pub last-clock-decides : LastClockDecides
+last-clock-decides r one other trigger bit held p q a e =
+    with-columns r one .accepted p .clock trigger bit
+    ∙ ap (clockedWith 0) (laws-over one p .clocks .no-frame-law r trigger bit held a e ∙ sym (laws-over other q .clocks .no-frame-law r trigger bit held a e))
+    ∙ sym (with-columns r other .accepted q .clock trigger bit)
 
 pub own-receiver : OwnReceiver
 own-receiver r = over r ownTable (own-columns .passes)

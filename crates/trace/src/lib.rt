@@ -103,7 +103,7 @@ fn refuse_block(refusal: u8, receiver: Receiver) -> BlockAnswer
 }
 
 // The clocks of a whole block over these columns, with a record of each that has a trigger or finishes
-// a frame. Block and state are checked once, before the first clock.
+// a frame. Block and state are checked once, before the first clock; the columns are not checked here.
 pub fn run_block_over(
     short: &[u8],
     long: &[u8],

@@ -119,8 +119,8 @@ const COUNTED: &str =
 fn due(faults: u8, index: u8) -> (u8, u8) {
     let order = [
         (STATE, REFUSED_STATE, 0),
-        (COLUMNS_LENGTH, REFUSED_COLUMNS, 0),
-        (COLUMN, REFUSED_COLUMN, index),
+        (COLUMNS_LENGTH, REFUSED_COLUMN_COUNT, 0),
+        (COLUMN, REFUSED_BAD_COLUMN, index),
         (LENGTH, REFUSED_BLOCK_LENGTH, 0),
         (ROOM, REFUSED_RECORD_BUFFER, 0),
         (BYTE, REFUSED_BIT, 0),
@@ -160,8 +160,8 @@ fn empty_blocks_with_columns() {
         let (bad, index) = columns::bad(&mut driver.random);
         let lent = [
             (OWN.to_vec(), ACCEPTED, 0),
-            (bad.to_vec(), REFUSED_COLUMN, index as u8),
-            (bad[1..].to_vec(), REFUSED_COLUMNS, 0),
+            (bad.to_vec(), REFUSED_BAD_COLUMN, index as u8),
+            (bad[1..].to_vec(), REFUSED_COLUMN_COUNT, 0),
         ];
         for (columns, refusal, index) in lent {
             driver.state = states::well_formed(&mut driver.random);
@@ -174,7 +174,7 @@ fn empty_blocks_with_columns() {
         }
         let mut state = driver.state;
         let done = null::run_no_block_without_columns(&mut state);
-        driver.both.same(state, (done.answer.refusal, done.index), (REFUSED_COLUMNS, 0));
+        driver.both.same(state, (done.answer.refusal, done.index), (REFUSED_COLUMN_COUNT, 0));
         driver.both.same("the state stays", state, driver.state);
     }
     driver.both.at_least(2_000 * 3 * 8);

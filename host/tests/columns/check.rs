@@ -1,7 +1,7 @@
 //! "27 not 40 numbers; 28 first bad column, its index told": `ttcrx_check_columns`. What is expected
 //! is worked out from each number alone, and from those before it in its group.
 
-use ttcrx_host::sys::{ColumnsAnswer, ACCEPTED, REFUSED_COLUMN, REFUSED_COLUMNS};
+use ttcrx_host::sys::{ColumnsAnswer, ACCEPTED, REFUSED_BAD_COLUMN, REFUSED_COLUMN_COUNT};
 use ttcrx_host::testing::columns::{
     any, bad_number, bad_numbers, fault, good_numbers, group, with,
 };
@@ -13,11 +13,11 @@ use ttcrx_host::testing::null;
 use ttcrx_host::testing::random::Random;
 
 const GOOD: ColumnsAnswer = ColumnsAnswer { refusal: ACCEPTED, index: 0 };
-const NOT_40: ColumnsAnswer = ColumnsAnswer { refusal: REFUSED_COLUMNS, index: 0 };
+const NOT_40: ColumnsAnswer = ColumnsAnswer { refusal: REFUSED_COLUMN_COUNT, index: 0 };
 
 /// Refusal 28, the first bad column at this index.
 fn bad_at(index: usize) -> ColumnsAnswer {
-    ColumnsAnswer { refusal: REFUSED_COLUMN, index: index as u8 }
+    ColumnsAnswer { refusal: REFUSED_BAD_COLUMN, index: index as u8 }
 }
 
 #[track_caller]
@@ -106,8 +106,8 @@ fn every_value_at_every_index() {
         {
             let due = due(&table, index, number);
             expect(&both, &with(&table, index, number), due);
-            let later = due.refusal == REFUSED_COLUMN && usize::from(due.index) > index;
-            found[usize::from(due.refusal == REFUSED_COLUMN) + usize::from(later)] += 1;
+            let later = due.refusal == REFUSED_BAD_COLUMN && usize::from(due.index) > index;
+            found[usize::from(due.refusal == REFUSED_BAD_COLUMN) + usize::from(later)] += 1;
         }
     }
     assert!(found.iter().all(|&count| count > 10_000), "good, bad, later bad: {found:?}");

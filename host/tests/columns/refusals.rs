@@ -135,8 +135,8 @@ const FUNCTIONS: [Function; 9] = [
 fn due(function: &Function, faults: u8, index: u8) -> (u8, u8) {
     let order = [
         (STATE, REFUSED_STATE, 0),
-        (LENGTH, REFUSED_COLUMNS, 0),
-        (COLUMN, REFUSED_COLUMN, index),
+        (LENGTH, REFUSED_COLUMN_COUNT, 0),
+        (COLUMN, REFUSED_BAD_COLUMN, index),
         (OTHER, function.other, 0),
     ];
     let first = order.iter().find(|(fault, _, _)| faults & fault != 0);
@@ -179,8 +179,8 @@ fn edges_of_well_formed() {
     for edge in edges::all(&mut random) {
         let lent: [(&[u8], u8, u8); 3] = [
             (&good, ACCEPTED, 0),
-            (&bad, REFUSED_COLUMN, index as u8),
-            (&good[..39], REFUSED_COLUMNS, 0),
+            (&bad, REFUSED_BAD_COLUMN, index as u8),
+            (&good[..39], REFUSED_COLUMN_COUNT, 0),
         ];
         for (columns, refusal, index) in lent {
             let clock = both.clock_with_columns(edge.state, columns, 1, 0);

@@ -83,7 +83,7 @@ impl Runs<'_> {
     fn refused(&mut self, pair: &Pair) {
         let one_bad = self.random.once_in(2);
         let (columns, index) = columns::lent(&mut self.random, !one_bad, one_bad);
-        let refusal = if one_bad { REFUSED_COLUMN } else { REFUSED_COLUMNS };
+        let refusal = if one_bad { REFUSED_BAD_COLUMN } else { REFUSED_COLUMN_COUNT };
         let (trigger, data) = (self.random.byte(), self.random.byte());
         let done = ttcrx::clock_with_columns(pair.state, &columns, trigger, data);
         let answer = convert::refused_clock(refusal, pair.state);

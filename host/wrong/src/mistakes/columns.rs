@@ -54,7 +54,7 @@ fn bad_at(index: usize) -> Vec<u8> {
 /// they are the own ones.
 fn accepting(columns: &[u8], accepted: impl Fn(&[u8], usize) -> bool) -> Vec<u8> {
     let mut left = columns.to_vec();
-    while let ColumnsAnswer { refusal: REFUSED_COLUMN, index } = Model.check_columns(&left) {
+    while let ColumnsAnswer { refusal: REFUSED_BAD_COLUMN, index } = Model.check_columns(&left) {
         let index = usize::from(index);
         if !accepted(columns, index) {
             return bad_at(index);
@@ -152,7 +152,7 @@ pub fn groups_compared(columns: &[u8]) -> Vec<u8> {
     let right = Model.check_columns(columns);
     let before = match right.refusal {
         ACCEPTED => COLUMNS,
-        REFUSED_COLUMN => right.index.into(),
+        REFUSED_BAD_COLUMN => right.index.into(),
         _ => return columns.to_vec(),
     };
     let mut indices = COLUMNS_SHORT..before;
@@ -163,7 +163,7 @@ pub fn groups_compared(columns: &[u8]) -> Vec<u8> {
 pub fn earlier_of_two_told(columns: &[u8]) -> Vec<u8> {
     let right = Model.check_columns(columns);
     let index = usize::from(right.index);
-    if right.refusal != REFUSED_COLUMN || !equal(columns, index) {
+    if right.refusal != REFUSED_BAD_COLUMN || !equal(columns, index) {
         return columns.to_vec();
     }
     let (group, place) = group(columns, index);
@@ -172,7 +172,7 @@ pub fn earlier_of_two_told(columns: &[u8]) -> Vec<u8> {
 }
 
 pub fn last_bad_column_told(columns: &[u8]) -> Vec<u8> {
-    if Model.check_columns(columns).refusal != REFUSED_COLUMN {
+    if Model.check_columns(columns).refusal != REFUSED_BAD_COLUMN {
         return columns.to_vec();
     }
     let bad =
@@ -186,7 +186,9 @@ pub fn column_before_length(columns: &[u8]) -> Vec<u8> {
         *place = *column;
     }
     match Model.check_columns(&first) {
-        ColumnsAnswer { refusal: REFUSED_COLUMN, index } if usize::from(index) < columns.len() => {
+        ColumnsAnswer { refusal: REFUSED_BAD_COLUMN, index }
+            if usize::from(index) < columns.len() =>
+        {
             bad_at(index.into())
         }
         _ => columns.to_vec(),
@@ -276,7 +278,7 @@ impl Library for Index {
 }
 
 pub fn index_within_the_group(refusal: u8, told: u8) -> u8 {
-    match refusal == REFUSED_COLUMN && told >= COLUMNS_SHORT as u8 {
+    match refusal == REFUSED_BAD_COLUMN && told >= COLUMNS_SHORT as u8 {
         true => told - COLUMNS_SHORT as u8,
         false => told_with_28(refusal, told),
     }
@@ -285,14 +287,14 @@ pub fn index_within_the_group(refusal: u8, told: u8) -> u8 {
 /// The right index.
 fn told_with_28(refusal: u8, told: u8) -> u8 {
     match refusal {
-        REFUSED_COLUMN => told,
+        REFUSED_BAD_COLUMN => told,
         _ => 0,
     }
 }
 
 pub fn indices_from_1(refusal: u8, told: u8) -> u8 {
     match refusal {
-        REFUSED_COLUMN => told + 1,
+        REFUSED_BAD_COLUMN => told + 1,
         _ => 0,
     }
 }
@@ -306,7 +308,7 @@ pub fn index_beside_refusal_2(refusal: u8, told: u8) -> u8 {
 
 pub fn index_40_with_27(refusal: u8, told: u8) -> u8 {
     match refusal {
-        REFUSED_COLUMNS => COLUMNS as u8,
+        REFUSED_COLUMN_COUNT => COLUMNS as u8,
         _ => told_with_28(refusal, told),
     }
 }

@@ -19,7 +19,7 @@ pub fn length_before_state(
     data: u8,
 ) -> ClockWithIndex {
     match Model.check_columns(columns).refusal {
-        REFUSED_COLUMNS => refused(REFUSED_COLUMNS, receiver),
+        REFUSED_COLUMN_COUNT => refused(REFUSED_COLUMN_COUNT, receiver),
         _ => Model.clock_with_columns(receiver, columns, trigger, data),
     }
 }
@@ -31,8 +31,8 @@ pub fn column_before_state(
     number: u64,
 ) -> ClockWithIndex {
     match Model.check_columns(columns) {
-        ColumnsAnswer { refusal: REFUSED_COLUMN, index } => {
-            ClockWithIndex { index, ..refused(REFUSED_COLUMN, receiver) }
+        ColumnsAnswer { refusal: REFUSED_BAD_COLUMN, index } => {
+            ClockWithIndex { index, ..refused(REFUSED_BAD_COLUMN, receiver) }
         }
         _ => Model.receive_with_columns(receiver, columns, kind, number),
     }
@@ -53,7 +53,7 @@ pub fn bit_before_column(
     data: u8,
 ) -> ClockWithIndex {
     let right = Model.clock_with_columns(receiver, columns, trigger, data);
-    bit_before(REFUSED_COLUMN, right, trigger, data)
+    bit_before(REFUSED_BAD_COLUMN, right, trigger, data)
 }
 
 pub fn bit_before_length(
@@ -63,7 +63,7 @@ pub fn bit_before_length(
     data: u8,
 ) -> ClockWithIndex {
     let right = Model.clock_with_columns(receiver, columns, trigger, data);
-    bit_before(REFUSED_COLUMNS, right, trigger, data)
+    bit_before(REFUSED_COLUMN_COUNT, right, trigger, data)
 }
 
 pub fn kind_before_column(
@@ -73,7 +73,7 @@ pub fn kind_before_column(
     number: u64,
 ) -> ClockWithIndex {
     let right = Model.receive_with_columns(receiver, columns, kind, number);
-    match right.answer.refusal == REFUSED_COLUMN && kind > 1 {
+    match right.answer.refusal == REFUSED_BAD_COLUMN && kind > 1 {
         true => refused(REFUSED_FRAME, receiver),
         false => right,
     }
@@ -138,7 +138,7 @@ pub fn refused_columns_count_a_clock(
     data: u8,
 ) -> ClockWithIndex {
     let mut answer = Model.clock_with_columns(receiver, columns, trigger, data);
-    if matches!(answer.answer.refusal, REFUSED_COLUMNS | REFUSED_COLUMN) {
+    if matches!(answer.answer.refusal, REFUSED_COLUMN_COUNT | REFUSED_BAD_COLUMN) {
         answer.answer.receiver.core.counters.bunch ^= 1;
     }
     answer
@@ -151,7 +151,7 @@ pub fn outputs_of_a_refused_clock(
     data: u8,
 ) -> ClockWithIndex {
     let mut answer = Model.clock_with_columns(receiver, columns, trigger, data);
-    if answer.answer.refusal == REFUSED_COLUMN {
+    if answer.answer.refusal == REFUSED_BAD_COLUMN {
         answer.answer.outputs.trigger = trigger.min(1);
     }
     answer
@@ -235,7 +235,7 @@ pub fn block_length_before_columns(
     buffer: &mut [u32],
 ) -> BlockWithIndex {
     let right = Model.run_block_with_columns(receiver, columns, block, buffer);
-    let by_columns = matches!(right.answer.refusal, REFUSED_COLUMNS | REFUSED_COLUMN);
+    let by_columns = matches!(right.answer.refusal, REFUSED_COLUMN_COUNT | REFUSED_BAD_COLUMN);
     match by_columns && block.len() > BLOCK_CLOCKS {
         true => BlockWithIndex { answer: BlockOutcome::refused(REFUSED_BLOCK_LENGTH), index: 0 },
         false => right,
@@ -259,7 +259,7 @@ pub fn refused_columns_clear_the_buffer(
     buffer: &mut [u32],
 ) -> BlockWithIndex {
     let right = Model.run_block_with_columns(receiver, columns, block, buffer);
-    if right.answer.refusal == REFUSED_COLUMN {
+    if right.answer.refusal == REFUSED_BAD_COLUMN {
         buffer.fill(0);
     }
     right
@@ -272,7 +272,7 @@ pub fn refused_columns_run_the_block(
     buffer: &mut [u32],
 ) -> BlockWithIndex {
     let right = Model.run_block_with_columns(receiver, columns, block, buffer);
-    if right.answer.refusal == REFUSED_COLUMN {
+    if right.answer.refusal == REFUSED_BAD_COLUMN {
         let mut records = vec![0; buffer.len()];
         Model.run_block(receiver, block, &mut records);
     }
