@@ -14,14 +14,9 @@ PROGRAM = target/bin/ttclines
 WARNINGS = -Wall -Wextra -Wpedantic -Werror
 HOST = --quiet --offline --locked --manifest-path host/Cargo.toml
 
-# The functions of the archive stand in several crates, so that a must-fail edit of one costs a check of few. rt makes an archive of each; what
-# they export is put together in one. All else in them is local to its object.
-INTERFACE = ttcrx ttcrx_frames ttcrx_blocks ttcrx_reports
-
 library:
 	rt check ttclines
-	for crate in $(INTERFACE); do rt staticlib $$crate && (cd target/staticlib && ar x lib$$crate.a) || exit 1; done
-	cd target/staticlib && rm -f lib*.a && ar rcs libttcrx.a $(INTERFACE:=.o) && rm -f *.o
+	rt staticlib ttcrx
 
 # What a printed line says, in words: for each refusal of a line, each verdict, and the end.
 IN_WORDS = \

@@ -44,7 +44,7 @@ extern "C" {
  * value, so a program must be compiled with the header of the archive that it is linked with:
  * compare TTCRX_VERSION with ttcrx_version() once, at the start.
  */
-#define TTCRX_VERSION 5
+#define TTCRX_VERSION 4
 
 /* The version of the archive. Refuses nothing. */
 uint32_t ttcrx_version(void);
@@ -92,8 +92,7 @@ uint32_t ttcrx_version(void);
  * error is counted; triggers, register accesses and the bunch and event counters work as always.
  */
 #define TTCRX_VERDICT_NONE 0              /* no frame finished on this clock */
-#define TTCRX_VERDICT_BROADCAST 1         /* short: data bit 0 clears the bunch, 1 the event counter, each
-                                             with its kept bytes */
+#define TTCRX_VERDICT_BROADCAST 1         /* short: data bit 0 clears the bunch, 1 the event counter */
 #define TTCRX_VERDICT_STORED 2            /* the data went to register 0, 1, 2 or 3 */
 #define TTCRX_VERDICT_RESET 3             /* the state became the fresh one of the same IDs */
 #define TTCRX_VERDICT_OUTSIDE 4           /* E = 1: the word was shown to the electronics outside */
@@ -222,25 +221,8 @@ typedef struct ttcrx_counters {
  */
 typedef struct ttcrx_sequence {
     uint8_t left;   /* 0, 1 or 2 */
-    uint32_t event; /* the kept event number, under 2^24; 0 with no words left (not ttcrx_kept) */
+    uint32_t event; /* the kept event number, under 2^24; 0 with no words left */
 } ttcrx_sequence;
-
-/*
- * The kept bytes: what registers 25, 27 and 28 show. A read of register 24 keeps the upper byte of the
- * bunch counter of that moment, a read of 26 the two upper bytes of the event counter. So the bytes of
- * the bunch or the event counter, read low byte first, are those of one moment, whatever clocks come
- * between the reads, unless the counter is cleared, or its low byte is read again, between them; if it
- * was cleared, read again. Kept bytes are 0 until such a read, and again when their counter is cleared:
- * by a write to any of its registers, by a broadcast or by RESET. That a counter begins again at 0 by
- * itself is no clearing. A write to 24 or 25 clears the bunch counter and its kept byte, one to 26, 27
- * or 28 the event counter and both of its own. Of the single error counter (8, 9) nothing is kept: read
- * both bytes of it with no clock between.
- */
-typedef struct ttcrx_kept {
-    uint8_t bunch25; /* register 25: bits 11 to 8 of the bunch number, under 16 */
-    uint8_t event27; /* register 27: bits 15 to 8 of the event number */
-    uint8_t event28; /* register 28: bits 23 to 16 of the event number */
-} ttcrx_kept;
 
 /* All of a receiver but what it keeps of channel B. */
 typedef struct ttcrx_core {
@@ -249,7 +231,6 @@ typedef struct ttcrx_core {
     ttcrx_errors errors;
     ttcrx_counters counters;
     ttcrx_sequence sequence;
-    ttcrx_kept kept;
 } ttcrx_core;
 
 /*
@@ -299,8 +280,7 @@ typedef struct ttcrx_clock_answer {
 /* The answer of a register read. */
 typedef struct ttcrx_read_answer {
     uint8_t refusal;
-    uint8_t byte;            /* 0 with a refusal */
-    ttcrx_receiver receiver; /* the state after the read; with a refusal, the state as given */
+    uint8_t byte;
 } ttcrx_read_answer;
 
 /* The answer of a register write. */
@@ -491,21 +471,18 @@ ttcrx_fresh_answer ttcrx_fresh(uint16_t id, uint8_t i2c);
 ttcrx_clock_answer ttcrx_clock(ttcrx_receiver receiver, uint8_t trigger, uint8_t data);
 
 /*
- * The byte that a register holds, and the state after the read: go on with that one. A read of 24 or
- * 26 keeps the upper bytes of its counter in it (see ttcrx_kept), and changes nothing else; a read of
- * any other register changes nothing. Registers 24 and 26 show the counter as it is now, 25, 27 and 28
- * the kept bytes. Refusals, in this order: 2: a state that is not well formed; 5: a register that is
- * not in the map. The byte is then 0, and the receiver is the one given.
+ * The byte that a register holds; the state stays as it is. Refusals, in this order: 2: a state that
+ * is not well formed; 5: a register that is not in the map. The byte is then 0.
  */
 ttcrx_read_answer ttcrx_read(ttcrx_receiver receiver, uint8_t register_number);
 
 /*
  * Writes a byte to a register. Registers 0 to 3, 20 and 21 store it; a write to any byte of a
- * counter clears all of the counter, and its kept bytes, whatever the value; register 11 stays 0.
- * Refusals, in this order: 2: a state that is not well formed; 5: a register that is not in the map;
- * 6: register 16, 17, 18 or 22; then 17: register 0 or 1, and a byte over 239, which belongs to no
- * setting; or 7: register 20 or 21, and a byte that differs from the fresh one in bits 6 to 0. The
- * receiver is then the one given.
+ * counter clears all of the counter, whatever the value; register 11 stays 0. Refusals, in this
+ * order: 2: a state that is not well formed; 5: a register that is not in the map; 6: register 16,
+ * 17, 18 or 22; then 17: register 0 or 1, and a byte over 239, which belongs to no setting; or 7:
+ * register 20 or 21, and a byte that differs from the fresh one in bits 6 to 0. The receiver is then
+ * the one given.
  */
 ttcrx_write_answer ttcrx_write(ttcrx_receiver receiver, uint8_t register_number, uint8_t value);
 

@@ -49,7 +49,7 @@ static void check(int holds, const char *what, const char *file, int line)
 /* The fresh state of ID 5 and I2C ID 5, and one that is not well formed. They lie in memory that cannot
    be written. */
 #define STATE_5(status5) \
-    {{{5, 5}, {0, 0, 0, 0x93, 0x85, 0xA7}, {0, 0, status5}, {0, 0}, {0, 0}, {0, 0, 0}}, {0, 0, 0}}
+    {{{5, 5}, {0, 0, 0, 0x93, 0x85, 0xA7}, {0, 0, status5}, {0, 0}, {0, 0}}, {0, 0, 0}}
 static const ttcrx_receiver fresh_5 = STATE_5(1);
 static const ttcrx_receiver ill_formed = STATE_5(2);
 
@@ -58,12 +58,6 @@ static int same_settings(ttcrx_settings one, ttcrx_settings other)
     return one.fine1 == other.fine1 && one.fine2 == other.fine2 && one.coarse == other.coarse &&
            one.control == other.control && one.config2 == other.config2 &&
            one.config3 == other.config3;
-}
-
-static int kept_is(ttcrx_receiver receiver, uint8_t bunch25, uint8_t event27, uint8_t event28)
-{
-    const ttcrx_kept kept = receiver.core.kept;
-    return kept.bunch25 == bunch25 && kept.event27 == event27 && kept.event28 == event28;
 }
 
 static int same_core(ttcrx_core one, ttcrx_core other)
@@ -87,20 +81,8 @@ static int held_is(ttcrx_receiver receiver, uint8_t count, uint8_t ones_wanted, 
 
 static int same_state(ttcrx_receiver one, ttcrx_receiver other)
 {
-    const ttcrx_kept kept = other.core.kept;
     return same_core(one.core, other.core) &&
-           kept_is(one, kept.bunch25, kept.event27, kept.event28) &&
            held_is(one, other.held.count, other.held.ones_wanted, other.held.bits);
-}
-
-static int read_is(ttcrx_read_answer answer, uint8_t refusal, uint8_t byte, ttcrx_receiver receiver)
-{
-    return answer.refusal == refusal && answer.byte == byte && same_state(answer.receiver, receiver);
-}
-
-static int write_is(ttcrx_write_answer answer, uint8_t refusal, ttcrx_receiver receiver)
-{
-    return answer.refusal == refusal && same_state(answer.receiver, receiver);
 }
 
 /* The fresh state, but it holds so many frame bits, all 0, and wants so many ones. */

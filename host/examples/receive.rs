@@ -6,13 +6,12 @@ fn main() {
     // A trigger on an idle clock: the bus shows the bunch number, and the event counter goes up.
     let answer = ttcrx::clock(ttcrx::fresh(5, 5).receiver, 1, 1);
     assert_eq!(answer.outputs.strobe, ttcrx::STROBE_BUNCH);
-    let events = ttcrx::read(answer.receiver, 26);
-    assert_eq!(events.byte, 1);
+    assert_eq!(ttcrx::read(answer.receiver, 26).byte, 1);
 
     // A stored line: the broadcast of 02 with a wrong check bit. It clears the event counter.
     let line = ttcrx::read_line(b"0095");
     assert_eq!(line.refusal, ttcrx::ACCEPTED);
-    let answer = ttcrx::receive(events.receiver, line.kind, line.number);
+    let answer = ttcrx::receive(answer.receiver, line.kind, line.number);
     assert_eq!(answer.outputs.verdict, ttcrx::VERDICT_BROADCAST);
     assert_eq!((answer.outputs.corrected, answer.outputs.word), (1, 0x02));
     assert_eq!(ttcrx::read(answer.receiver, 26).byte, 0);

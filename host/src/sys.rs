@@ -3,7 +3,7 @@
 
 use core::mem::{align_of, offset_of, size_of};
 
-pub const VERSION: u32 = 5;
+pub const VERSION: u32 = 4;
 
 pub const ACCEPTED: u8 = 0;
 pub const REFUSED_BIT: u8 = 1;
@@ -177,21 +177,13 @@ layouts! {
         4 event: u32,
     }
 
-    /// `ttcrx_kept`
-    Kept: 3, 1 {
-        0 bunch25: u8,
-        1 event27: u8,
-        2 event28: u8,
-    }
-
     /// `ttcrx_core`
-    Core: 36, 4 {
+    Core: 32, 4 {
         0 ids: Ids,
         4 settings: Settings,
         10 errors: Errors,
         16 counters: Counters,
         24 sequence: Sequence,
-        32 kept: Kept,
     }
 
     /// `ttcrx_held`
@@ -202,13 +194,13 @@ layouts! {
     }
 
     /// `ttcrx_receiver`
-    Receiver: 56, 8 {
+    Receiver: 48, 8 {
         0 core: Core,
-        40 held: Held,
+        32 held: Held,
     }
 
     /// `ttcrx_fresh_answer`
-    FreshAnswer: 64, 8 {
+    FreshAnswer: 56, 8 {
         0 refusal: u8,
         8 receiver: Receiver,
     }
@@ -226,21 +218,20 @@ layouts! {
     }
 
     /// `ttcrx_clock_answer`
-    ClockAnswer: 80, 8 {
+    ClockAnswer: 72, 8 {
         0 refusal: u8,
         8 receiver: Receiver,
-        64 outputs: Outputs,
+        56 outputs: Outputs,
     }
 
     /// `ttcrx_read_answer`
-    ReadAnswer: 64, 8 {
+    ReadAnswer: 2, 1 {
         0 refusal: u8,
         1 byte: u8,
-        8 receiver: Receiver,
     }
 
     /// `ttcrx_write_answer`
-    WriteAnswer: 64, 8 {
+    WriteAnswer: 56, 8 {
         0 refusal: u8,
         8 receiver: Receiver,
     }
@@ -267,18 +258,18 @@ layouts! {
     }
 
     /// `ttcrx_report`
-    Report: 80, 8 {
+    Report: 72, 8 {
         0 receiver: Receiver,
-        56 lines: u64,
-        64 part: LinePart,
+        48 lines: u64,
+        56 part: LinePart,
     }
 
     /// `ttcrx_reported`
-    Reported: 104, 8 {
+    Reported: 96, 8 {
         0 report: Report,
-        80 used: usize,
-        88 written: usize,
-        96 room_wanted: usize,
+        72 used: usize,
+        80 written: usize,
+        88 room_wanted: usize,
     }
 
     /// `ttcrx_columns_answer`
@@ -300,9 +291,9 @@ layouts! {
     }
 
     /// `ttcrx_clock_with_index`
-    ClockWithIndex: 88, 8 {
+    ClockWithIndex: 80, 8 {
         0 answer: ClockAnswer,
-        80 index: u8,
+        72 index: u8,
     }
 
     /// `ttcrx_block_with_index`

@@ -4,8 +4,8 @@
 use crate::sys;
 pub use crate::sys::{
     BlockOutcome, Byte, ClockAnswer, Core, Counters, Decoded, Encoded, Errors, Fields, FreshAnswer,
-    Held, Ids, Kept, Line, LinePart, Outputs, ReadAnswer, Receiver, Record, Report, Reported,
-    Sequence, Setting, Settings, WriteAnswer, Written,
+    Held, Ids, Line, LinePart, Outputs, ReadAnswer, Receiver, Record, Report, Reported, Sequence,
+    Setting, Settings, WriteAnswer, Written,
 };
 pub use crate::sys::{
     BlockWithIndex, ClockWithIndex, ColumnsAnswer, DecodedWithIndex, EncodedWithIndex,
@@ -108,8 +108,7 @@ pub fn clock(receiver: Receiver, trigger: u8, data: u8) -> ClockAnswer {
     unsafe { sys::ttcrx_clock(receiver, trigger, data) }
 }
 
-/// The byte that a register holds, and the state to go on with: a read of 24 or 26 keeps the upper
-/// bytes of its counter there. Refusals 2 and 5.
+/// The byte that a register holds. Refusals 2 and 5.
 pub fn read(receiver: Receiver, number: u8) -> ReadAnswer {
     // SAFETY: takes every value and no pointer.
     unsafe { sys::ttcrx_read(receiver, number) }

@@ -58,7 +58,7 @@ module _ (columns : Kind → List ℕ) (laws : ClockLaws columns) where
   unfolding carried idle_call idle_clock
   beside core held after (read number) e h =
       subst (Beside core held (read number)) h
-      (made core held held (read number) _ _ (reads columns core held number e) (reads columns core nothing_held number (holding_none core held e)) refl)
+      (made core held held (read number) core _ (reads columns core held number e) (reads columns core nothing_held number (holding_none core held e)) refl)
   beside core held after (write number value) e h =
       subst (Beside core held (write number value)) h
       (made core held held (write number value) _ _ (writes columns core held number value e)

@@ -24,7 +24,7 @@ use Rattle.receiver_state.specs.State.{receiver, nothing_held, fresh_core}
 use Rattle.channel_b.proofs.Laws.{waits_none}
 use Rattle.verdicts.specs.Table.{dropped}
 use Rattle.verdicts.specs.Finished.{finished_by}
-use Rattle.verdicts.specs.FrameLaws.{GoodVerdict, ShowsFrame, SettingsMove, CountersMove, KeptMove, register_of}
+use Rattle.verdicts.specs.FrameLaws.{GoodVerdict, ShowsFrame, SettingsMove, CountersMove, register_of}
 use Rattle.verdicts.specs.Laws.{VerdictLaws}
 use Rattle.guarantees.specs.Calls.{CallResult, result}
 use Rattle.guarantees.specs.LastClock.{ShortEffect, LongEffect, EffectOf, OthersSame, row_may_change, CleanLast}
@@ -36,17 +36,13 @@ ten_not v z no_ten = no_ten (sym v ∙ z)
 -- ---- the effects, by the word and by the fields
 
 short_effect : (fields : Fields) (shown : Outputs) (idle after : Core) → shown.verdict ≡ 1 → shown.word ≡ word_of Short fields
-    → CountersMove idle.counters shown after.counters → KeptMove idle.kept shown after.kept → ShortEffect fields idle after
-short_effect fields shown idle after v w m k =
+    → CountersMove idle.counters shown after.counters → ShortEffect fields idle after
+short_effect fields shown idle after v w m =
     record {
       bunch_cleared = λ h. m.bunch_cleared v (ap (λ (x : ℕ). x % 2) w ∙ h);
       bunch_not_cleared = λ h. m.bunch_not_cleared v (ap (λ (x : ℕ). x % 2) w ∙ h);
       event_cleared = λ h. m.event_cleared v (ap (λ (x : ℕ). x / 2 % 2) w ∙ h);
       event_not_cleared = λ h. m.event_not_cleared v (ap (λ (x : ℕ). x / 2 % 2) w ∙ h);
-      bunch_kept_cleared = λ h. k.bunch_cleared v (ap (λ (x : ℕ). x % 2) w ∙ h);
-      bunch_kept_stays = λ h. k.bunch_not_cleared v (ap (λ (x : ℕ). x % 2) w ∙ h);
-      event_kept_cleared = λ h. k.event_cleared v (ap (λ (x : ℕ). x / 2 % 2) w ∙ h);
-      event_kept_stays = λ h. k.event_not_cleared v (ap (λ (x : ℕ). x / 2 % 2) w ∙ h);
     }
 
 long_effect : (fields : Fields) (shown : Outputs) (idle after : Core) → InRange Long fields → shown.word ≡ word_of Long fields
@@ -91,7 +87,7 @@ module _ (columns : Kind → List ℕ) (verdicts : VerdictLaws columns) where
       → let done = finished_by columns kind number idle in EffectOf kind fields done.outputs.verdict idle.core done.core
   effect Short number fields idle d =
       let s = shows Short number fields idle d in
-      short_effect fields _ idle.core _ (s.good refl) s.word_shown (verdicts.counters_move Short number idle) (verdicts.kept_move Short number idle)
+      short_effect fields _ idle.core _ (s.good refl) s.word_shown (verdicts.counters_move Short number idle)
   effect Long number fields idle d =
       let s = shows Long number fields idle d in
       long_effect fields _ idle.core _ d.in_range s.word_shown (verdicts.settings_move Long number idle) (verdicts.reset_is_fresh Long number idle)
@@ -119,7 +115,6 @@ module _ (columns : Kind → List ℕ) (verdicts : VerdictLaws columns) where
         status_same = λ n. absurd (n tt);
         counters_same = λ n. (verdicts.counters_move kind number idle).counters_stay (λ e. n (inl e)) (λ e. n (inr e));
         sequence_same = verdicts.sequence_stays kind number idle;
-        kept_same = λ n. (verdicts.kept_move kind number idle).kept_stay (λ e. n (inl e)) (λ e. n (inr e));
         held_same = refl;
       }
     where

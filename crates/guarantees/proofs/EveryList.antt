@@ -10,7 +10,6 @@ use lib.Dec.{eqb}
 use Rattle.laws.proofs.Rules.{picked}
 use Rattle.frame.specs.declared.Kind.{Kind}
 use Rattle.frame.specs.Bits.{Bits}
-use Rattle.receiver_state.specs.declared.Core.{Core}
 use Rattle.receiver_state.specs.declared.Held.{Held}
 use Rattle.receiver_state.specs.declared.Receiver.{Receiver}
 use Rattle.receiver_state.specs.State.{receiver, nothing_held}
@@ -22,7 +21,6 @@ use Rattle.receiver.specs.Laws.{ClockLaws}
 use Rattle.registers.specs.declared.WriteAnswer.{WriteAnswer}
 use Rattle.registers.specs.declared.ReadAnswer.{ReadAnswer}
 use Rattle.registers.specs.Access.{read_refusal, read_answer, write_refusal, write_answer}
-use Rattle.registers.proofs.Reading.{read_laws}
 use Rattle.registers.proofs.Laws.{write_laws}
 use Rattle.guarantees.specs.Calls.{Call, clock, read, write, CallAnswer, call, run, answers, refusal_of, carried, channel_b}
 use Rattle.guarantees.specs.FrameLists.{last_call}
@@ -41,11 +39,10 @@ module _ (columns : Kind → List ℕ) (laws : ClockLaws columns) where
   unfolding call write_answer read_answer
   refused_law r (clock trigger bit) n = let law = laws.refused_law r trigger bit n in (law.0, shows_nothing _ law.1, refl)
   refused_law r (read number) n =
-      let same = picked Stays (well_formed r) (picked Stays (eqb (read_refusal number) 0) (λ z. absurd (z refl)) (λ z. (refl, refl))) (λ z. (refl, refl)) n in
-      (same.0, refl, same.1)
+      (refl, refl, picked Byte (well_formed r) (picked Byte (eqb (read_refusal number) 0) (λ z. absurd (z refl)) (λ z. refl)) (λ z. refl) n)
     where
-      Stays : ReadAnswer → Type 0
-      Stays done = done.refusal ≢ 0 → (done.receiver ≡ r) × (done.byte ≡ 0)
+      Byte : ReadAnswer → Type 0
+      Byte done = done.refusal ≢ 0 → done.byte ≡ 0
   refused_law r (write number value) n =
       (picked Stays (well_formed r) (picked Stays (eqb (write_refusal number value) 0) (λ z. absurd (z refl)) (λ z. refl)) (λ z. refl) n, refl, refl)
     where
@@ -54,12 +51,12 @@ module _ (columns : Kind → List ℕ) (laws : ClockLaws columns) where
 
   pub reads_leave : demand.ReadsLeave columns
   unfolding call
-  reads_leave r number = read_laws.leaves r number
+  reads_leave r number = refl
 
   ids_call : (r : Receiver) (c : Call) → (call columns r c).receiver.core.ids ≡ r.core.ids
   unfolding call
   ids_call r (clock trigger bit) = laws.ids_stay r trigger bit
-  ids_call r (read number) = ap (λ (core : Core). core.ids) (read_laws.leaves r number).of_core.kept_alone
+  ids_call r (read number) = refl
   ids_call r (write number value) = write_laws.ids_stay r number value
 
   pub ids_stay : (cs : List Call) (r : Receiver) → (run columns r cs).core.ids ≡ r.core.ids

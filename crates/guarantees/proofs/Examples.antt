@@ -1,6 +1,6 @@
 -- Lists of calls whose answers are computed. Assumes nothing.
 use mathlib.Core.Path.{◌≡◌, refl, ap, ◌∙◌}
-use mathlib.Core.List.{List, [], ◌∷◌, ◌++◌}
+use mathlib.Core.List.{List, [], ◌++◌}
 use Prim.Native.Nat.{ℕ, suc, ◌+◌, ◌≤◌}
 use native.Mathlib.Omega.{arith}
 use lib.Count.{ones, count_trailing_zeros}
@@ -15,7 +15,7 @@ use Rattle.frame.specs.Decode.{judged, finished_answer}
 use Rattle.fine_delay.specs.Delay.{has_setting}
 use Rattle.receiver_state.specs.WellFormed.{ids_ok, settings_ok, counters_ok, sequence_ok, core_ok, bits_ok, wanted_ok, held_ok, well_formed}
 use Rattle.receiver_state.specs.State.{holding, wanting_ones, is_waiting}
-use Rattle.register_map.specs.Change.{stored, after_write, after_read}
+use Rattle.register_map.specs.Change.{stored, after_write}
 use Rattle.verdicts.specs.Table.{up_to, double_up, cleared_by, long_row, table_row}
 use Rattle.verdicts.specs.Finished.{count_errors, finished}
 use Rattle.channel_b.specs.declared.Taken.{Taken}
@@ -26,15 +26,14 @@ use Rattle.receiver.specs.Clock.{step_answer, clock_answer}
 use Rattle.laws.specs.OneOf.{one_of}
 use Rattle.register_map.specs.Map.{in_map, register_byte, read_only, without_setting, config_wrong}
 use Rattle.registers.specs.Access.{read_refusal, read_answer, write_refusal, write_answer}
-use Rattle.guarantees.specs.Calls.{clock, read, call, run, answers, refusal_of, carried, channel_b}
+use Rattle.guarantees.specs.Calls.{call, run, answers, refusal_of, carried, channel_b}
 use Rattle.guarantees.specs.FrameLists.{last_call}
-use Rattle.guarantees.specs.KeptBytes.{keeps, clears, none_keeps, none_clears}
 use Rattle.guarantees.specs.Existence.{carry}
-use Rattle.guarantees.specs.Examples.{idle_clocks, TwentyCalls, MoreFlips, FortyOnes, AfterBadStop, TriggerBetweenReads}
+use Rattle.guarantees.specs.Examples.{idle_clocks, TwentyCalls, MoreFlips, FortyOnes, AfterBadStop}
 use Rattle.guarantees.specs.BadStop.{First41st}
 
 pub twenty_calls : TwentyCalls
-unfolding ones count_trailing_zeros lowest_one check_number syndrome first_from by_syndrome decode_word is_frame judged every has_setting ids_ok settings_ok counters_ok sequence_ok core_ok bits_ok wanted_ok held_ok well_formed up_to double_up cleared_by without_setting stored long_row table_row count_errors finished finished_answer is_waiting frame_or_part between_frames take_bit held_after count_clock continued started bus_step idle_clock step_answer clock_answer one_of in_map register_byte read_only config_wrong after_write after_read read_refusal read_answer write_refusal write_answer call run answers refusal_of carried channel_b bits_of carry
+unfolding ones count_trailing_zeros lowest_one check_number syndrome first_from by_syndrome decode_word is_frame judged every has_setting ids_ok settings_ok counters_ok sequence_ok core_ok bits_ok wanted_ok held_ok well_formed up_to double_up cleared_by without_setting stored long_row table_row count_errors finished finished_answer is_waiting frame_or_part between_frames take_bit held_after count_clock continued started bus_step idle_clock step_answer clock_answer one_of in_map register_byte read_only config_wrong after_write read_refusal read_answer write_refusal write_answer call run answers refusal_of carried channel_b bits_of carry
 twenty_calls =
     record {
       frame_is = refl;
@@ -47,7 +46,7 @@ twenty_calls =
     }
 
 pub more_flips : MoreFlips
-unfolding ones count_trailing_zeros lowest_one check_number syndrome first_from by_syndrome decode_word is_frame judged every has_setting ids_ok settings_ok counters_ok sequence_ok core_ok bits_ok wanted_ok held_ok well_formed up_to double_up cleared_by without_setting stored long_row table_row count_errors finished finished_answer is_waiting frame_or_part between_frames take_bit held_after count_clock continued started bus_step idle_clock step_answer clock_answer one_of in_map register_byte read_only config_wrong after_write after_read read_refusal read_answer write_refusal write_answer call run answers refusal_of carried channel_b bits_of carry
+unfolding ones count_trailing_zeros lowest_one check_number syndrome first_from by_syndrome decode_word is_frame judged every has_setting ids_ok settings_ok counters_ok sequence_ok core_ok bits_ok wanted_ok held_ok well_formed up_to double_up cleared_by without_setting stored long_row table_row count_errors finished finished_answer is_waiting frame_or_part between_frames take_bit held_after count_clock continued started bus_step idle_clock step_answer clock_answer one_of in_map register_byte read_only config_wrong after_write read_refusal read_answer write_refusal write_answer call run answers refusal_of carried channel_b bits_of carry
 more_flips =
     record {
       three_flips = record { answers_are = refl; leaves = refl };
@@ -93,16 +92,4 @@ after_bad_stop =
       begins_again = refl;
       waits = record { none_held = refl; start_next = refl };
       start_bit = refl;
-    }
-
-pub trigger_between_reads : TriggerBetweenReads
-unfolding every has_setting ids_ok settings_ok counters_ok sequence_ok core_ok bits_ok wanted_ok held_ok well_formed is_waiting frame_or_part between_frames take_bit held_after count_clock continued started bus_step idle_clock step_answer clock_answer one_of in_map register_byte after_read read_refusal read_answer call run answers last_call keeps clears none_keeps none_clears
-trigger_between_reads =
-    record {
-      is_well_formed = refl;
-      bytes = refl;
-      middle = record { between = clock 1 1 ∷ []; rest = read 28 ∷ []; calls_are = refl; leaves_kept = record { none_keeps_lem = refl; none_clears_lem = refl } };
-      upper = record { between = clock 1 1 ∷ read 27 ∷ []; rest = []; calls_are = refl; leaves_kept = record { none_keeps_lem = refl; none_clears_lem = refl } };
-      counted = refl;
-      without_kept = refl;
     }

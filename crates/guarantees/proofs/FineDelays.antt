@@ -20,21 +20,17 @@ use Rattle.frame.specs.Place.{place_in}
 use Rattle.frame.specs.Frames.{InRange}
 use Rattle.frame.proofs.Columns.{tables_good}
 use Rattle.receiver_state.specs.declared.Ids.{Ids}
-use Rattle.receiver_state.specs.declared.Core.{Core}
 use Rattle.receiver_state.specs.declared.Receiver.{Receiver}
 use Rattle.receiver_state.specs.declared.FreshAnswer.{FreshAnswer}
-use Rattle.receiver_state.specs.State.{receiver, fresh_answer}
+use Rattle.receiver_state.specs.State.{fresh_answer}
 use Rattle.receiver_state.specs.WellFormed.{well_formed}
 use Rattle.receiver_state.proofs.WellFormed.{receiver_facts}
 use Rattle.receiver_state.proofs.States.{fresh_laws}
 use Rattle.register_map.specs.Map.{in_map, register_byte}
 use Rattle.register_map.specs.Laws.{DelayRegister, ByteWithoutSetting}
-use Rattle.register_map.proofs.Read.{read_leaves}
 use Rattle.register_map.proofs.Stored.{store_laws}
 use Rattle.registers.specs.declared.WriteAnswer.{WriteAnswer}
-use Rattle.registers.specs.Access.{byte_answer, read_from}
-use Rattle.registers.proofs.Reading.{read_laws}
-use Rattle.registers.proofs.Laws.{write_laws}
+use Rattle.registers.proofs.Laws.{read_laws, write_laws}
 use Rattle.verdicts.specs.Table.{executed}
 use Rattle.verdicts.specs.FrameLaws.{OneHigher}
 use Rattle.guarantees.specs.Calls.{Call, clock, CallResult, run}
@@ -60,14 +56,8 @@ holds_setting : (r : Receiver) (number : ℕ) → well_formed r ≡ true → Del
 holds_setting r number e n =
     record {
       of_setting = setting_laws.setting_named (register_byte r.core number) (has_setting_lem r number e n);
-      read_gives = read_laws.accepted r number e (in_map_lem number n) ∙ ap (byte_answer 0 (register_byte r.core number)) leaves;
+      read_gives = read_laws.accepted r number e (in_map_lem number n);
     }
-  where
-    small : number < 2
-    small = ⊎_elim (λ z. omega arith) (λ z. omega arith) n
-
-    leaves : read_from r number ≡ r
-    leaves = ap (λ (core : Core). receiver core r.held) ((read_leaves r.core number).others_none (λ z. omega (arith, small)) (λ z. omega (arith, small)))
 
 -- ---- a setting written
 
@@ -130,7 +120,6 @@ clean_others idle done ten o =
       status_same = λ n. absurd (n tt);
       counters_same = λ n. o.counters_same (⊎_elim (λ v. ten_not ten v (λ e. omega arith)) (λ v. ten_not ten v (λ e. omega arith)));
       sequence_same = λ n. o.sequence_same (λ v. ten_not ten v (λ e. omega arith));
-      kept_same = λ n. o.kept_same (⊎_elim (λ v. ten_not ten v (λ e. omega arith)) (λ v. ten_not ten v (λ e. omega arith)));
       held_same = o.held_same;
     }
 
@@ -154,7 +143,6 @@ flipped_others idle clean done o f =
       status_same = λ n. absurd (n tt);
       counters_same = λ n. f.counters_same n ∙ o.counters_same n;
       sequence_same = λ n. f.sequence_same n ∙ o.sequence_same n;
-      kept_same = λ n. f.kept_same n ∙ o.kept_same n;
       held_same = f.held_same ∙ o.held_same;
     }
 

@@ -50,7 +50,6 @@ corrected_last place clean w =
           status_same = λ n. refl;
           counters_same = λ n. refl;
           sequence_same = λ n. refl;
-          kept_same = λ n. refl;
           held_same = refl;
         }
 
@@ -84,7 +83,6 @@ uncorrectable_last verdict idle w f p z =
           status_same = λ n. absurd (n tt);
           counters_same = λ n. refl;
           sequence_same = λ n. refl;
-          kept_same = λ n. refl;
           held_same = refl;
         }
 

@@ -10,8 +10,6 @@ pub mod Demand3
 pub mod Flips
 pub mod BadStop
 pub mod FineDelays
-pub mod KeptBytes
-pub mod WithoutReads
 pub mod Existence
 pub mod Examples
 pub mod Blocks

@@ -25,9 +25,8 @@ use Rattle.idle_clock.specs.IdleClock.{idle_clock}
 use Rattle.verdicts.specs.Finished.{finished_by}
 use Rattle.receiver.specs.Laws.{ClockLaws}
 use Rattle.register_map.specs.Map.{register_byte}
-use Rattle.register_map.specs.Change.{after_write, after_read}
+use Rattle.register_map.specs.Change.{after_write}
 use Rattle.registers.specs.Access.{read_refusal, read_answer, write_refusal, write_answer}
-use Rattle.registers.proofs.Reading.{read_laws}
 use Rattle.registers.proofs.Laws.{write_laws}
 use Rattle.guarantees.specs.Calls.{Call, clock, read, write, CallResult, result, call, refusal_of, carried}
 use Rattle.guarantees.proofs.HeldBits.{held_over}
@@ -77,8 +76,7 @@ holding_none core held e = receiver_ok _ (record { of_core = (receiver_facts _ e
 -- an access sees and changes the core alone
 pub reads : (columns : Kind → List ℕ) (core : Core) (held : Held) (number : ℕ) → well_formed (receiver core held) ≡ true
     → call columns (receiver core held) (read number)
-    ≡ result (receiver (cond (eqb (read_refusal number) 0) (after_read core number) core) held) (read_refusal number) no_outputs
-    (cond (eqb (read_refusal number) 0) (register_byte core number) 0)
+    ≡ result (receiver core held) (read_refusal number) no_outputs (cond (eqb (read_refusal number) 0) (register_byte core number) 0)
 unfolding call read_answer
 reads columns core held number e =
     by_test (eqb (read_refusal number) 0) (λ t. rw (e, t, eqb-true (read_refusal number) 0 t) refl) (λ t. rw (e, t) refl)
@@ -122,7 +120,7 @@ module _ (columns : Kind → List ℕ) (laws : ClockLaws columns) where
   pub keeps : (r : Receiver) (c : Call) → well_formed r ≡ true → well_formed (call columns r c).receiver ≡ true
   unfolding call
   keeps r (clock trigger bit) e = laws.stays_well_formed r trigger bit e
-  keeps r (read number) e = read_laws.stays_well_formed r number e
+  keeps r (read number) e = e
   keeps r (write number value) e = write_laws.stays_well_formed r number value e
 
   -- a clock that finishes one

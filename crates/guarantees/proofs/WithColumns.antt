@@ -20,15 +20,13 @@ use Rattle.receiver_state.specs.WellFormed.{well_formed}
 use Rattle.receiver_with_columns.proofs.Laws.{with_columns}
 use Rattle.guarantees.specs.Calls.{Call, clock, read, write, call, run}
 use Rattle.guarantees.specs.WithColumns.{ColumnsCall, clock_call_lem, read_call, write_call, ResultWithIndex, call_with_columns, run_with_columns}
-use Rattle.guarantees.specs.WithColumns.{Lends, OneTable, plain_call, plain_calls, answer_over, AsOverColumns, ColumnsTheorem, TwoUses}
+use Rattle.guarantees.specs.WithColumns.{Lends, OneTable, kept, kept_calls, answer_over, AsOverColumns, ColumnsTheorem, TwoUses}
 use Rattle.guarantees.specs.Demand3.{Demand3}
 use Rattle.guarantees.proofs.Demand3.{demand3_theorem}
 use Rattle.guarantees.proofs.Blocks.{block_theorem}
 use Rattle.guarantees.proofs.BadStop.{bad_stop_theorem}
 use Rattle.guarantees.proofs.FineDelays.{fine_delay_theorem}
 use Rattle.guarantees.proofs.Flips.{flip_theorem}
-use Rattle.guarantees.proofs.KeptBytes.{kept_byte_theorem}
-use Rattle.guarantees.proofs.WithoutReads.{without_reads_theorem}
 
 module _ (table : List ℕ) (p : Passes table) where
   good : GoodTables (lent_columns table)
@@ -54,29 +52,29 @@ module _ (table : List ℕ) (p : Passes table) where
   one_call r (write_call number value) w lends = refl
 
   -- what it leaves
-  one_left : (r : Receiver) (c : ColumnsCall) → (answer_over table r c).plain.receiver ≡ run (lent_columns table) r (plain_call c)
-  unfolding answer_over plain_call run
+  one_left : (r : Receiver) (c : ColumnsCall) → (answer_over table r c).plain.receiver ≡ run (lent_columns table) r (kept c)
+  unfolding answer_over kept run
   one_left r (clock_call_lem columns trigger bit) = by_test (eqb (check_columns columns).refusal 0) (λ t. rw t) (λ t. rw t)
   one_left r (read_call number) = refl
   one_left r (write_call number value) = refl
 
   same_state : (r : Receiver) (calls : List ColumnsCall) → well_formed r ≡ true → OneTable table calls
-      → run_with_columns r calls ≡ run (lent_columns table) r (plain_calls calls)
-  unfolding run_with_columns plain_calls run
+      → run_with_columns r calls ≡ run (lent_columns table) r (kept_calls calls)
+  unfolding run_with_columns kept_calls run
   same_state r [] w one = refl
   same_state r (c ∷ cs) w one =
-      let left : (call_with_columns r c).plain.receiver ≡ run (lent_columns table) r (plain_call c) =
+      let left : (call_with_columns r c).plain.receiver ≡ run (lent_columns table) r (kept c) =
       ap (λ (d : ResultWithIndex). d.plain.receiver) (one_call r c w one.0) ∙ one_left r c in
       ap (λ (s : Receiver). run_with_columns s cs) left
-      ∙ same_state (run (lent_columns table) r (plain_call c)) cs (demand.stays_well_formed r (plain_call c) w) one.1
-      ∙ sym (demand.one_after_another r (plain_call c) (plain_calls cs)).state
+      ∙ same_state (run (lent_columns table) r (kept c)) cs (demand.stays_well_formed r (kept c) w) one.1
+      ∙ sym (demand.one_after_another r (kept c) (kept_calls cs)).state
 
   lists : (r : Receiver) (calls : List ColumnsCall) → well_formed r ≡ true → OneTable table calls → AsOverColumns table r calls
   lists r calls w one = let state = same_state r calls w one in record {
     state = state;
     next_call = λ c lends.
         ap (λ (s : Receiver). call_with_columns s c) state
-        ∙ one_call (run (lent_columns table) r (plain_calls calls)) c (demand.stays_well_formed r (plain_calls calls) w) lends;
+        ∙ one_call (run (lent_columns table) r (kept_calls calls)) c (demand.stays_well_formed r (kept_calls calls) w) lends;
   }
 
 pub columns_theorem : ColumnsTheorem
@@ -86,8 +84,6 @@ columns_theorem table p = record {
   bad_stop = bad_stop_theorem (lent_columns table) (good table p);
   fine_delays = fine_delay_theorem (lent_columns table) (good table p);
   flips = flip_theorem (lent_columns table) (good table p);
-  kept_bytes_lem = kept_byte_theorem (lent_columns table) (good table p);
-  without_reads_lem = without_reads_theorem (lent_columns table) (good table p);
   block_is = λ r block buffer. ((with_columns r table).accepted p).run_block_lem block buffer;
   blocks = block_theorem (lent_columns table) (good table p);
 }

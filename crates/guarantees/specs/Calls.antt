@@ -3,10 +3,11 @@
 use Rattle.std.specs.Prelude.{ℕ, cond, List, [], ◌∷◌, ◌++◌, eqb, ltb}
 use Rattle.frame.specs.declared.Kind.{Kind}
 use Rattle.receiver_state.specs.declared.Receiver.{Receiver}
+use Rattle.receiver_state.specs.State.{receiver}
 use Rattle.receiver_state.specs.declared.Outputs.{Outputs}
 use Rattle.receiver_state.specs.Shown.{no_outputs}
 use Rattle.receiver.specs.Clock.{clock_answer}
-use Rattle.registers.specs.Access.{read_refusal, read_answer, write_refusal, write_answer}
+use Rattle.registers.specs.Access.{read_refusal, read_answer, after_read, write_refusal, write_answer}
 
 -- ---- one call
 
@@ -34,12 +35,13 @@ abbrev pub result : Receiver → ℕ → Outputs → ℕ → CallResult
 result r refusal outputs byte = record { receiver = r; answer = record { refusal = refusal; outputs = outputs; byte = byte } }
 
 -- The step of a list: "Each call answers, and refuses, exactly as demand 2's rules and the table of refusals say." `clock_answer`, `read_answer` and
--- `write_answer` are what the functions `clock`, `read` and `write` give by their contracts. Document 02, Q-5: "Reading now hands a state back."
+-- `write_answer` are what the functions `clock`, `read` and `write` give by their contracts. The function `read` gets a copy of the state: the core is left
+-- as `after_read` says, and what is held of channel B stays.
 unfoldable pub call : (Kind → List ℕ) → Receiver → Call → CallResult
 call columns r (clock trigger bit) =
     let done = clock_answer columns r trigger bit in result done.receiver done.refusal done.outputs 0
 call columns r (read number) =
-    let done = read_answer r number in result done.receiver done.refusal no_outputs done.byte
+    let done = read_answer r number in result (receiver (after_read r.core number) r.held) done.refusal no_outputs done.byte
 call columns r (write number value) =
     let done = write_answer r number value in result done.receiver done.refusal no_outputs 0
 

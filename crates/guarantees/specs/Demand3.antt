@@ -1,8 +1,8 @@
--- Document 01, "Demand 3, over lists of calls", with document 02, Q-1, Q-4, Q-5 and Q-8: the statement, over the columns of each kind of frame.
+-- Document 01, "Demand 3, over lists of calls", with document 02, Q-1, Q-4 and Q-8: the statement, over the columns of each kind of frame.
 -- Proved in proofs/Demand3.antt.
 -- "It is one claim about the whole list and not one for each call." What a single call gives is fixed by the definitions that `call` of Calls.antt
 -- cites, with `ClockLaws` of the crate `receiver`, `ReadLaws` and `WriteLaws` of `registers` and `ByteLaws` of `register_map`; of these, the record
--- repeats only what a refused call leaves and answers, and what a read leaves.
+-- repeats only what a refused call leaves and answers, and that a read leaves the state.
 -- Words in quotation marks that document 01 does not have are the customer's demand 3.
 use Rattle.std.specs.Prelude.{ℕ, ◌≡◌, ◌≢◌, true, List, ◌++◌, map, replicate}
 use Rattle.hamming.specs.declared.WrongBit.{WrongBit}
@@ -16,7 +16,6 @@ use Rattle.receiver_state.specs.declared.Receiver.{Receiver}
 use Rattle.receiver_state.specs.Shown.{no_outputs}
 use Rattle.receiver_state.specs.WellFormed.{well_formed}
 use Rattle.channel_b.specs.TakeBit.{Waits}
-use Rattle.registers.specs.Laws.{ReadLeft}
 use Rattle.guarantees.specs.Calls.{Call, clock, read, CallAnswer, call, run, answers, refusal_of, channel_b}
 use Rattle.guarantees.specs.FrameLists.{Sends, SameCalls, last_call, idle_last, AsIdleBefore, OneAfterAnother, WholeList}
 use Rattle.guarantees.specs.LastClock.{with_frame, with_correction, with_double_error, CleanLast, CorrectedLast, UncorrectableLast}
@@ -36,9 +35,9 @@ module _ (columns : Kind → List ℕ) where
       (r : Receiver) (c : Call) → let done = call columns r c in
       done.answer.refusal ≢ 0 → (done.receiver ≡ r) × (done.answer.outputs ≡ no_outputs) × (done.answer.byte ≡ 0)
 
-  -- a read, refused or not, leaves everything but the kept bytes, and only 24 and 26 change those (document 02, Q-5)
+  -- a read, refused or not, leaves the state as it was: the function gets a copy and returns none, and `call` is defined so
   abbrev pub ReadsLeave : Type 0
-  ReadsLeave = (r : Receiver) (number : ℕ) → ReadLeft r number (call columns r (read number)).receiver
+  ReadsLeave = (r : Receiver) (number : ℕ) → (call columns r (read number)).receiver ≡ r
 
   abbrev pub StaysWellFormed : Type 0
   StaysWellFormed = (r : Receiver) (calls : List Call) → well_formed r ≡ true → well_formed (run columns r calls) ≡ true

@@ -1,6 +1,6 @@
--- Document 01, "Demand 3, over lists of calls", and document 02, Q-1, Q-5 and Q-8: lists of calls whose answers are computed, from the fresh
--- state of ID 5 and I2C ID 5, or one with other counters. Proved in proofs/Examples.antt.
-use Rattle.std.specs.Prelude.{ℕ, zero, suc, ◌+◌, ◌*◌, ◌^◌, ◌≡◌, true, List, [], ◌∷◌, ◌++◌, map, replicate}
+-- Document 01, "Demand 3, over lists of calls", and document 02, Q-1 and Q-8: lists of calls whose answers are computed, from the fresh state of
+-- ID 5 and I2C ID 5. Proved in proofs/Examples.antt.
+use Rattle.std.specs.Prelude.{ℕ, zero, suc, ◌≡◌, true, List, [], ◌∷◌, ◌++◌, map, replicate}
 use Rattle.hamming.specs.declared.WrongBit.TheVariants.{Data, Check}
 use Rattle.frame.specs.declared.Kind.TheVariants.{Short}
 use Rattle.frame.specs.Numbers.{frame_bits}
@@ -9,14 +9,12 @@ use Rattle.frame.specs.Bits.{bits_of}
 use Rattle.frame.specs.Encode.{broadcast, encode_fields}
 use Rattle.frame.specs.Frames.{flip_protected, flip_each_protected}
 use Rattle.receiver_state.specs.declared.Receiver.{Receiver}
-use Rattle.receiver_state.specs.State.{ids, counters, holding, wanting_ones, nothing_held, receiver, with_counters, fresh_core, fresh_state}
+use Rattle.receiver_state.specs.State.{ids, holding, wanting_ones, receiver, fresh_core, fresh_state}
 use Rattle.receiver_state.specs.WellFormed.{well_formed}
-use Rattle.register_map.specs.Map.{byte_at}
 use Rattle.channel_b.specs.TakeBit.{Waits}
 use Rattle.guarantees.specs.Calls.{Call, clock, read, write, CallAnswer, run, answers, channel_b}
 use Rattle.guarantees.specs.FrameLists.{last_call}
 use Rattle.guarantees.specs.BadStop.{First41st, BadStop}
-use Rattle.guarantees.specs.KeptBytes.{event, LaterRead}
 use Rattle.guarantees.specs.Existence.{carry}
 
 -- ---- twenty calls that carry a broadcast
@@ -149,25 +147,3 @@ pub record AfterBadStop : Type 0 where
   pub waits : Waits (run columns_of start (zero_clocks 16 ++ idle_clocks 41))
   -- and a 0 after it is one
   pub start_bit : (run columns_of start (zero_clocks 16 ++ (idle_clocks 41 ++ (clock 0 0 ∷ [])))).held ≡ holding 1 0
-
--- ---- a trigger between the reads of 26, 27 and 28
-
--- 255 triggers were counted
-abbrev pub at255 : Receiver
-at255 = receiver (with_counters (counters 0 255) (fresh_core (ids 5 5))) nothing_held
-
-abbrev pub trigger_between : List Call
-trigger_between = read 26 ∷ clock 1 1 ∷ read 27 ∷ read 28 ∷ []
-
-pub record TriggerBetweenReads : Type 0 where
-  pub is_well_formed : well_formed at255 ≡ true
-  -- the reads give 255, 0 and 0: together 255, the event number when 26 was read
-  pub bytes : map (λ (a : CallAnswer). a.byte) (answers columns_of at255 trigger_between) ≡ 255 ∷ 0 ∷ 0 ∷ 0 ∷ []
-  -- so what `EventOfOneMoment` asks for is met
-  pub middle : LaterRead columns_of event 1 at255 [] trigger_between
-  pub upper : LaterRead columns_of event 2 at255 [] trigger_between
-  -- the trigger made it 256. Had 27 and 28 shown the present bytes, the three would have been 511: "a number that never existed"
-  pub counted : (run columns_of at255 trigger_between).core.counters.event ≡ 256
-  pub without_kept :
-      let now = (run columns_of at255 trigger_between).core.counters.event in
-      byte_at 0 at255.core.counters.event + byte_at 1 now * 2 ^ 8 + byte_at 2 now * 2 ^ 16 ≡ 511

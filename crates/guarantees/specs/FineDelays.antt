@@ -29,10 +29,10 @@ use Rattle.guarantees.specs.LastClock.{MayChange, OthersSame}
 abbrev pub setting_in : Receiver → ℕ → ℕ
 setting_in r number = setting_of (register_byte r.core number)
 
--- the register holds the byte of that setting, and a read gives it and leaves the state
+-- the register holds the byte of that setting, and a read gives it
 pub record HoldsSetting (r : Receiver) (number : ℕ) : Type 0 where
   pub of_setting : IsByteOf (register_byte r.core number) (setting_in r number)
-  pub read_gives : read_answer r number ≡ byte_answer 0 (register_byte r.core number) r
+  pub read_gives : read_answer r number ≡ byte_answer 0 (register_byte r.core number)
 
 -- a write of a setting's byte is accepted, and the register then has that setting
 abbrev pub SettingWritten : Type 0
@@ -55,7 +55,7 @@ pub record InternalWithoutSetting (fields : Fields) (id : ℕ) : Type 0 where
 
 -- beside the idle list: status bit 5, and with a correction the single error counter
 abbrev pub verdict10_may_change : MayChange
-verdict10_may_change = record { settings = ⊥; single = Unit {0}; double = ⊥; status = Unit {0}; counters = ⊥; sequence = ⊥; kept = ⊥ }
+verdict10_may_change = record { settings = ⊥; single = Unit {0}; double = ⊥; status = Unit {0}; counters = ⊥; sequence = ⊥ }
 
 -- its last clock, beside the idle list's: "the new verdict 10 ..: nothing stored, .. not counted as executed"
 pub record GetsVerdict10 (fields : Fields) (idle done : CallResult) : Type 0 where

@@ -1,4 +1,4 @@
--- Document 01, "Demand 3, over lists of calls", with document 02, Q-5 and Q-8: what the last clock of a list that carries a frame leaves and answers, as a whole
+-- Document 01, "Demand 3, over lists of calls", with document 02, Q-8: what the last clock of a list that carries a frame leaves and answers, as a whole
 -- and by name.
 -- A result or a core named `idle` is what the last clock of the idle list leaves and answers, or leaves.
 -- Words in quotation marks that document 01 does not have are the customer's demand 3.
@@ -59,17 +59,12 @@ with_double_error verdict idle =
 
 -- ---- by name
 
--- "effect of the table's row" of a short frame: "data bit 0 clears the bunch counter, bit 1 the event counter" (the word: `word_is`); document 02, Q-5:
--- "Clearing a counter by .. broadcast .. clears its kept bytes"
+-- "effect of the table's row" of a short frame: "data bit 0 clears the bunch counter, bit 1 the event counter" (the word: `word_is`)
 pub record ShortEffect (fields : Fields) (idle after : Core) : Type 0 where
   pub bunch_cleared : fields.«data» % 2 ≡ 1 → after.counters.bunch ≡ 0
   pub bunch_not_cleared : fields.«data» % 2 ≡ 0 → after.counters.bunch ≡ idle.counters.bunch
   pub event_cleared : fields.«data» / 2 % 2 ≡ 1 → after.counters.event ≡ 0
   pub event_not_cleared : fields.«data» / 2 % 2 ≡ 0 → after.counters.event ≡ idle.counters.event
-  pub bunch_kept_cleared : fields.«data» % 2 ≡ 1 → after.kept.bunch25 ≡ 0
-  pub bunch_kept_stays : fields.«data» % 2 ≡ 0 → after.kept.bunch25 ≡ idle.kept.bunch25
-  pub event_kept_cleared : fields.«data» / 2 % 2 ≡ 1 → (after.kept.event27 ≡ 0) × (after.kept.event28 ≡ 0)
-  pub event_kept_stays : fields.«data» / 2 % 2 ≡ 0 → (after.kept.event27 ≡ idle.kept.event27) × (after.kept.event28 ≡ idle.kept.event28)
 
 -- and of a long one: of rows 4, 5 and 6 none in the state, and of row 10 (document 02, Q-4) "nothing stored"
 pub record LongEffect (fields : Fields) (verdict : ℕ) (idle after : Core) : Type 0 where
@@ -95,7 +90,6 @@ pub record MayChange : Type 1 where
   pub status : Type 0
   pub counters : Type 0
   pub sequence : Type 0
-  pub kept : Type 0
 
 -- of two results, all parts but verdict, corrected flag, place and word are the same, save those that may change
 pub record OthersSame (may : MayChange) (one other : CallResult) : Type 0 where
@@ -109,7 +103,6 @@ pub record OthersSame (may : MayChange) (one other : CallResult) : Type 0 where
   pub status_same : (may.status → ⊥) → other.receiver.core.errors.status5 ≡ one.receiver.core.errors.status5
   pub counters_same : (may.counters → ⊥) → other.receiver.core.counters ≡ one.receiver.core.counters
   pub sequence_same : (may.sequence → ⊥) → other.receiver.core.sequence ≡ one.receiver.core.sequence
-  pub kept_same : (may.kept → ⊥) → other.receiver.core.kept ≡ one.receiver.core.kept
   pub held_same : other.receiver.held ≡ one.receiver.held
 
 -- a clean frame: what the row of its verdict changes, by verdict 1, 2 or 3; and status bit 5
@@ -122,16 +115,15 @@ row_may_change verdict =
       status = Unit {0};
       counters = (verdict ≡ 1) ⊎ (verdict ≡ 3);
       sequence = verdict ≡ 3;
-      kept = (verdict ≡ 1) ⊎ (verdict ≡ 3);
     }
 
 -- a corrected frame beside the clean one: the single error counter
 abbrev pub correction_may_change : MayChange
-correction_may_change = record { settings = ⊥; single = Unit {0}; double = ⊥; status = ⊥; counters = ⊥; sequence = ⊥; kept = ⊥ }
+correction_may_change = record { settings = ⊥; single = Unit {0}; double = ⊥; status = ⊥; counters = ⊥; sequence = ⊥ }
 
 -- a frame that can't be corrected beside the idle list: the double error counter, and status bit 5
 abbrev pub double_error_may_change : MayChange
-double_error_may_change = record { settings = ⊥; single = ⊥; double = Unit {0}; status = Unit {0}; counters = ⊥; sequence = ⊥; kept = ⊥ }
+double_error_may_change = record { settings = ⊥; single = ⊥; double = Unit {0}; status = Unit {0}; counters = ⊥; sequence = ⊥ }
 
 -- ---- the last clock, by name
 

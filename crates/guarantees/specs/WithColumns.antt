@@ -18,8 +18,6 @@ use Rattle.guarantees.specs.Blocks.{BlockLaws}
 use Rattle.guarantees.specs.BadStop.{BadStopLaws}
 use Rattle.guarantees.specs.FineDelays.{FineDelayLaws}
 use Rattle.guarantees.specs.Flips.{FlipLaws}
-use Rattle.guarantees.specs.KeptBytes.{KeptByteLaws}
-use Rattle.guarantees.specs.WithoutReads.{WithoutReadsLaw}
 
 -- ---- the calls
 
@@ -64,14 +62,14 @@ OneTable table [] = Unit {0}
 OneTable table (c ∷ cs) = Lends table c × OneTable table cs
 
 -- the calls without columns, and without the clock calls that are refused by 27 or 28
-unfoldable pub plain_call : ColumnsCall → List Call
-plain_call (clock_call_lem columns trigger bit) = cond (eqb (check_columns columns).refusal 0) (clock trigger bit ∷ []) []
-plain_call (read_call number) = read number ∷ []
-plain_call (write_call number value) = write number value ∷ []
+unfoldable pub kept : ColumnsCall → List Call
+kept (clock_call_lem columns trigger bit) = cond (eqb (check_columns columns).refusal 0) (clock trigger bit ∷ []) []
+kept (read_call number) = read number ∷ []
+kept (write_call number value) = write number value ∷ []
 
-unfoldable pub plain_calls : List ColumnsCall → List Call
-plain_calls [] = []
-plain_calls (c ∷ cs) = plain_call c ++ plain_calls cs
+unfoldable pub kept_calls : List ColumnsCall → List Call
+kept_calls [] = []
+kept_calls (c ∷ cs) = kept c ++ kept_calls cs
 
 -- what a call answers over this table's columns: as `call` says, with index 0; or it is refused by 27 or 28, and leaves the state
 unfoldable pub answer_over : List ℕ → Receiver → ColumnsCall → ResultWithIndex
@@ -82,10 +80,10 @@ answer_over table r (clock_call_lem columns trigger bit) =
 answer_over table r (read_call number) = with_index 0 (call (lent_columns table) r (read number))
 answer_over table r (write_call number value) = with_index 0 (call (lent_columns table) r (write number value))
 
--- a list leaves what `run` says of the plain calls, and each further call answers so after it: `Demand3` and the others below speak of these
+-- a list leaves what `run` says of the calls kept, and each further call answers so after it: `Demand3` and the others below speak of these
 pub record AsOverColumns (table : List ℕ) (r : Receiver) (calls : List ColumnsCall) : Type 0 where
-  pub state : run_with_columns r calls ≡ run (lent_columns table) r (plain_calls calls)
-  pub next_call : (c : ColumnsCall) → Lends table c → call_with_columns (run_with_columns r calls) c ≡ answer_over table (run (lent_columns table) r (plain_calls calls)) c
+  pub state : run_with_columns r calls ≡ run (lent_columns table) r (kept_calls calls)
+  pub next_call : (c : ColumnsCall) → Lends table c → call_with_columns (run_with_columns r calls) c ≡ answer_over table (run (lent_columns table) r (kept_calls calls)) c
 
 -- ---- the statements
 
@@ -96,8 +94,6 @@ pub record GuaranteesWithColumns (table : List ℕ) : Type 0 where
   pub bad_stop : BadStopLaws (lent_columns table)
   pub fine_delays : FineDelayLaws (lent_columns table)
   pub flips : FlipLaws (lent_columns table)
-  pub kept_bytes_lem : KeptByteLaws (lent_columns table)
-  pub without_reads_lem : WithoutReadsLaw (lent_columns table)
   -- a block with this table is one over its columns, of which the laws of blocks speak
   pub block_is : (r : Receiver) (block buffer : List ℕ) → run_block_with_columns r table block buffer ≡ done_with 0 (run_block (lent_columns table) r block buffer)
   pub blocks : BlockLaws (lent_columns table)

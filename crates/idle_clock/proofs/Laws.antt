@@ -25,6 +25,6 @@ idle_laws =
       sequence_left = idle_left;
       counters_advance = λ core trigger f t. counted core.counters trigger f.of_counters t;
       only_counts = λ core trigger.
-          record { no_verdict = refl; no_flag = refl; no_place = refl; no_word = refl; ids_stay = refl; settings_stay = refl; errors_stay = refl; kept_stay = refl };
+          record { no_verdict = refl; no_flag = refl; no_place = refl; no_word = refl; ids_stay = refl; settings_stay = refl; errors_stay = refl };
       stays_well_formed = idle_facts;
     }

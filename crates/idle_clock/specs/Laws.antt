@@ -1,4 +1,4 @@
--- Document 01, "One clock", with document 02, Q-5: what steps 1 and 2 leave and show, from the state before the clock. Proved in proofs/Laws.antt.
+-- Document 01, "One clock": what steps 1 and 2 leave and show, from the state before the clock. Proved in proofs/Laws.antt.
 use Rattle.std.specs.Prelude.{ℕ, ◌+◌, ◌/◌, ◌%◌, ◌^◌, ◌<◌, ◌≡◌}
 use Rattle.receiver_state.specs.declared.Sequence.{Sequence}
 use Rattle.receiver_state.specs.declared.Core.{Core}
@@ -66,8 +66,6 @@ pub record OnlyCounts (core : Core) (shown : Outputs) (after : Core) : Type 0 wh
   pub ids_stay : after.ids ≡ core.ids
   pub settings_stay : after.settings ≡ core.settings
   pub errors_stay : after.errors ≡ core.errors
-  -- document 02, Q-5: no trigger and no bunch counter that begins again at 0 moves them
-  pub kept_stay : after.kept ≡ core.kept
 
 pub record IdleLaws : Type 0 where
   pub bus_shows : (core : Core) (trigger : ℕ) → CoreFacts core → BusShows core trigger (idle_clock core trigger).outputs

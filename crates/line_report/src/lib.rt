@@ -1,7 +1,7 @@
 // Document 01, "Stored lines": what the program `ttclines` does to its input, for input that comes
 // in pieces of any size.
 //
-// The report's state goes by value, in and out: it is 80 bytes of plain data. A piece of input
+// The report's state goes by value, in and out: it is 72 bytes of plain data. A piece of input
 // is only read, and is lent; the text goes to the caller's own buffer, lent to be written.
 ghost use Rattle.std.specs.Prelude.{◌≡◌, ◌+◌, ◌<◌, ◌≤◌, length};
 ghost use Rattle.frame.specs.Columns.{columns_of};

@@ -16,7 +16,6 @@ use Rattle.frame.specs.Columns.{columns_of}
 use Rattle.frame.specs.Place.{places, largest_place}
 use Rattle.frame.proofs.Columns.{tables_good}
 use Rattle.receiver_state.specs.declared.Settings.{Settings}
-use Rattle.receiver_state.specs.declared.Kept.{Kept}
 use Rattle.receiver_state.specs.declared.Errors.{Errors}
 use Rattle.receiver_state.specs.declared.Core.{Core}
 use Rattle.receiver_state.specs.declared.Clocked.{Clocked}
@@ -38,7 +37,7 @@ use Rattle.channel_b.proofs.Bits.{bit_law}
 use Rattle.channel_b.proofs.Laws.{finishes_frames, after_frame}
 use Rattle.verdicts.specs.Table.{dropped}
 use Rattle.verdicts.specs.Finished.{finished, finished_by}
-use Rattle.verdicts.specs.FrameLaws.{BitNamed, ErrorsMove, SettingsMove, KeptMove}
+use Rattle.verdicts.specs.FrameLaws.{BitNamed, ErrorsMove, SettingsMove}
 use Rattle.verdicts.specs.Laws.{VerdictLaws}
 use Rattle.verdicts.proofs.Laws.{verdict_theorem}
 use Rattle.receiver.specs.declared.ClockAnswer.{ClockAnswer}
@@ -95,16 +94,6 @@ unmoved_settings before shown z =
       others_stay = λ p number l n. refl;
       config_stays = λ p. (refl, refl);
       settings_stay = λ p q. refl;
-    }
-
-unmoved_kept : (before : Kept) (shown : Outputs) → shown.verdict ≡ 0 → KeptMove before shown before
-unmoved_kept before shown z =
-    record {
-      kept_stay = λ p q. refl;
-      bunch_cleared = λ p b. absurd (omega arith);
-      bunch_not_cleared = λ p b. refl;
-      event_cleared = λ p b. absurd (omega arith);
-      event_not_cleared = λ p b. (refl, refl);
     }
 
 abbrev IsUnfinished : Taken → Type 0
@@ -357,17 +346,6 @@ module _ (columns : Kind → List ℕ) (verdicts : VerdictLaws columns) where
       Moves : ClockAnswer → Type 0
       Moves a = SettingsMove r.core.settings a.outputs a.receiver.core.settings
 
-  kept_law : laws.KeptLaw columns
-  unfolding idle_clock
-  kept_law r trigger bit =
-      by_refusal Moves r trigger bit
-      (λ h. by_taken (λ taken a. Moves a) r trigger bit (λ held. unmoved_kept r.core.kept _ refl)
-      (λ kind number. verdicts.kept_move kind number (idle_clock r.core trigger)))
-      (λ n z. unmoved_kept r.core.kept _ refl)
-    where
-      Moves : ClockAnswer → Type 0
-      Moves a = KeptMove r.core.kept a.outputs a.receiver.core.kept
-
   reset_is_fresh : laws.ResetIsFresh columns
   unfolding idle_clock
   reset_is_fresh r trigger bit =
@@ -424,7 +402,6 @@ module _ (columns : Kind → List ℕ) (verdicts : VerdictLaws columns) where
     advance_law = advance_law;
     errors_law = errors_law;
     settings_law = settings_law;
-    kept_law = kept_law;
     reset_is_fresh = reset_is_fresh;
     ids_stay = ids_stay;
     executed_exactly = executed_exactly;

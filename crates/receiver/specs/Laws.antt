@@ -1,4 +1,4 @@
--- Document 01, "One clock", with document 02, Q-1, Q-4, Q-5 and Q-8: what holds of every clock, over the columns of each kind of frame. Proved in proofs/Laws.antt.
+-- Document 01, "One clock", with document 02, Q-1, Q-4 and Q-8: what holds of every clock, over the columns of each kind of frame. Proved in proofs/Laws.antt.
 use Rattle.std.specs.Prelude.{ℕ, ◌+◌, ◌/◌, ◌%◌, ◌^◌, ◌<◌, ◌≤◌, ◌≡◌, ◌≢◌, ◌⊎◌, ◌↔◌, true, false, List}
 use Rattle.frame.specs.declared.Kind.{Kind}
 use Rattle.frame.specs.Numbers.{is_frame}
@@ -18,7 +18,7 @@ use Rattle.channel_b.specs.declared.Taken.TheVariants.{Unfinished, Finished}
 use Rattle.channel_b.specs.TakeBit.{take_bit, held_after, Waits}
 use Rattle.verdicts.specs.Table.{executed}
 use Rattle.verdicts.specs.Finished.{finished_by}
-use Rattle.verdicts.specs.FrameLaws.{ShowsFrame, BitNamed, ErrorsMove, SettingsMove, KeptMove, ExecutedFrame}
+use Rattle.verdicts.specs.FrameLaws.{ShowsFrame, BitNamed, ErrorsMove, SettingsMove, ExecutedFrame}
 use Rattle.receiver.specs.declared.ClockAnswer.{ClockAnswer}
 use Rattle.receiver.specs.Clock.{clocked_answer, refused_clock, clock_answer}
 
@@ -177,12 +177,6 @@ module _ (columns : Kind → List ℕ) where
       (r : Receiver) (trigger bit : ℕ) → let done = clock_answer columns r trigger bit in
       SettingsMove r.core.settings done.outputs done.receiver.core.settings
 
-  -- document 02, Q-5: only broadcasts that clear, and RESET, move the kept bytes
-  abbrev pub KeptLaw : Type 0
-  KeptLaw =
-      (r : Receiver) (trigger bit : ℕ) → let done = clock_answer columns r trigger bit in
-      KeptMove r.core.kept done.outputs done.receiver.core.kept
-
   -- "RESET": "state becomes the fresh one of the same IDs", a running sequence ended
   abbrev pub ResetIsFresh : Type 0
   ResetIsFresh =
@@ -222,7 +216,6 @@ pub record ClockLaws (columns : Kind → List ℕ) : Type 0 where
   pub advance_law : AdvanceLaw columns
   pub errors_law : ErrorsLaw columns
   pub settings_law : SettingsLaw columns
-  pub kept_law : KeptLaw columns
   pub reset_is_fresh : ResetIsFresh columns
   pub ids_stay : IdsStay columns
   pub executed_exactly : ExecutedExactly columns

@@ -33,7 +33,6 @@ fresh_facts own f =
             of_counters = record { bunch_below = omega arith; event_below = omega arith };
             of_sequence = record { few = omega arith; kept_below = omega arith; none_kept = λ z. refl };
             flag = omega arith;
-            of_kept = record { bunch_part_below = omega arith };
           };
       of_held = none_facts;
     }

@@ -95,13 +95,12 @@ core_facts core e =
       of_counters = counters_facts core.counters p.1.1.0;
       of_sequence = sequence_facts core.sequence p.1.1.1.0;
       flag = search (leb-true, p.1.1.1.1.0);
-      of_kept = record { bunch_part_below = search (ltb-true, p.1.1.1.1.1.0) };
     }
 
 core_ok_lem : (core : Core) → CoreFacts core → core_ok core ≡ true
 unfolding core_ok
 core_ok_lem core f =
-    passed→every _ (ids_ok_lem core.ids f.of_ids, (settings_ok_lem core.settings f.of_settings, (counters_ok_lem core.counters f.of_counters, (sequence_ok_lem core.sequence f.of_sequence, (le-leb _ _ f.flag, (lt-ltb _ _ f.of_kept.bunch_part_below, tt))))))
+    passed→every _ (ids_ok_lem core.ids f.of_ids, (settings_ok_lem core.settings f.of_settings, (counters_ok_lem core.counters f.of_counters, (sequence_ok_lem core.sequence f.of_sequence, (le-leb _ _ f.flag, tt)))))
 
 held_facts : (h : Held) → held_ok h ≡ true → HeldFacts h
 unfolding held_ok bits_ok wanted_ok

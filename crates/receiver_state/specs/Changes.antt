@@ -4,10 +4,9 @@ use Rattle.receiver_state.specs.declared.Settings.{Settings}
 use Rattle.receiver_state.specs.declared.Errors.{Errors}
 use Rattle.receiver_state.specs.declared.Counters.{Counters}
 use Rattle.receiver_state.specs.declared.Sequence.{Sequence}
-use Rattle.receiver_state.specs.declared.Kept.{Kept}
 use Rattle.receiver_state.specs.declared.Core.{Core}
-use Rattle.receiver_state.specs.State.{with_settings, with_errors, with_counters, with_sequence, with_kept}
-use Rattle.receiver_state.specs.WellFormed.{SettingsFacts, CountersFacts, SequenceFacts, KeptFacts, CoreFacts}
+use Rattle.receiver_state.specs.State.{with_settings, with_errors, with_counters, with_sequence}
+use Rattle.receiver_state.specs.WellFormed.{SettingsFacts, CountersFacts, SequenceFacts, CoreFacts}
 
 -- if the new part is well formed, the core stays well formed
 pub record OnePartChanged : Type 0 where
@@ -15,4 +14,3 @@ pub record OnePartChanged : Type 0 where
   pub errors_changed : (new : Errors) (core : Core) → new.status5 ≤ 1 → CoreFacts core → CoreFacts (with_errors new core)
   pub counters_changed : (new : Counters) (core : Core) → CountersFacts new → CoreFacts core → CoreFacts (with_counters new core)
   pub sequence_changed : (new : Sequence) (core : Core) → SequenceFacts new → CoreFacts core → CoreFacts (with_sequence new core)
-  pub kept_changed : (new : Kept) (core : Core) → KeptFacts new → CoreFacts core → CoreFacts (with_kept new core)

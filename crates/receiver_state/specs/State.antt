@@ -1,11 +1,10 @@
--- Document 01, "Registers", with document 02, Q-1 and Q-5: the fresh state, and states with one part changed. `Receiver` and its parts are the structs of src/lib.rt.
+-- Document 01, "Registers": the fresh state, and states with one part changed. `Receiver` and its parts are the structs of src/lib.rt.
 use Rattle.std.specs.Prelude.{ℕ, ◌+◌, ◌*◌, ◌%◌, ◌^◌, Bool, cond, ◌&&◌, eqb, ltb}
 use Rattle.receiver_state.specs.declared.Ids.{Ids}
 use Rattle.receiver_state.specs.declared.Settings.{Settings}
 use Rattle.receiver_state.specs.declared.Errors.{Errors}
 use Rattle.receiver_state.specs.declared.Counters.{Counters}
 use Rattle.receiver_state.specs.declared.Sequence.{Sequence}
-use Rattle.receiver_state.specs.declared.Kept.{Kept}
 use Rattle.receiver_state.specs.declared.Core.{Core}
 use Rattle.receiver_state.specs.declared.Held.{Held}
 use Rattle.receiver_state.specs.declared.Receiver.{Receiver}
@@ -29,14 +28,6 @@ words_left left event = record { left = left; event = event }
 -- "With no words left the kept event number is 0."
 abbrev pub no_sequence : Sequence
 no_sequence = words_left 0 0
-
--- document 02, Q-5: the kept bytes, in the order of the registers that show them: 25, 27, 28
-abbrev pub kept_bytes : ℕ → ℕ → ℕ → Kept
-kept_bytes bunch25 event27 event28 = record { bunch25 = bunch25; event27 = event27; event28 = event28 }
-
--- "Fresh: zero."
-abbrev pub nothing_kept : Kept
-nothing_kept = kept_bytes 0 0 0
 
 -- so many bits of a frame are held, with this number, and no ones are wanted
 abbrev pub holding : ℕ → ℕ → Held
@@ -62,23 +53,19 @@ receiver core held = record { core = core; held = held }
 
 abbrev pub with_settings : Settings → Core → Core
 with_settings new core =
-    record { ids = core.ids; settings = new; errors = core.errors; counters = core.counters; sequence = core.sequence; kept = core.kept }
+    record { ids = core.ids; settings = new; errors = core.errors; counters = core.counters; sequence = core.sequence }
 
 abbrev pub with_errors : Errors → Core → Core
 with_errors new core =
-    record { ids = core.ids; settings = core.settings; errors = new; counters = core.counters; sequence = core.sequence; kept = core.kept }
+    record { ids = core.ids; settings = core.settings; errors = new; counters = core.counters; sequence = core.sequence }
 
 abbrev pub with_counters : Counters → Core → Core
 with_counters new core =
-    record { ids = core.ids; settings = core.settings; errors = core.errors; counters = new; sequence = core.sequence; kept = core.kept }
+    record { ids = core.ids; settings = core.settings; errors = core.errors; counters = new; sequence = core.sequence }
 
 abbrev pub with_sequence : Sequence → Core → Core
 with_sequence new core =
-    record { ids = core.ids; settings = core.settings; errors = core.errors; counters = core.counters; sequence = new; kept = core.kept }
-
-abbrev pub with_kept : Kept → Core → Core
-with_kept new core =
-    record { ids = core.ids; settings = core.settings; errors = core.errors; counters = core.counters; sequence = core.sequence; kept = new }
+    record { ids = core.ids; settings = core.settings; errors = core.errors; counters = core.counters; sequence = new }
 
 -- ---- fresh
 
@@ -90,10 +77,10 @@ fresh_settings = record { fine1 = 0; fine2 = 0; coarse = 0; control = 0x93; conf
 abbrev pub status_byte : Core → ℕ
 status_byte core = 2 ^ 7 + 2 ^ 6 + core.errors.status5 % 2 * 2 ^ 5
 
--- "all counters 0, .. no sequence", and document 02, Q-5, of the kept bytes: "Fresh: zero."
+-- "all counters 0, .. no sequence"
 abbrev pub new_core : Ids → Settings → ℕ → Core
 new_core own settings status5 =
-    record { ids = own; settings = settings; errors = errors 0 0 status5; counters = counters 0 0; sequence = no_sequence; kept = nothing_kept }
+    record { ids = own; settings = settings; errors = errors 0 0 status5; counters = counters 0 0; sequence = no_sequence }
 
 -- "status 0xE0", which has bit 5 at 1
 abbrev pub fresh_core : Ids → Core

@@ -1,4 +1,4 @@
--- Document 01, "Well formed" and "Registers" (fresh), with document 02, Q-1 and Q-5: what holds of such states. Proved in proofs/States.antt,
+-- Document 01, "Well formed" and "Registers" (fresh), with document 02, Q-1: what holds of such states. Proved in proofs/States.antt,
 -- `HeldLaw` and `WaitingLaw` in proofs/HeldBits.antt.
 use Rattle.std.specs.Prelude.{ℕ, ◌/◌, ◌-◌, ◌^◌, ◌<◌, ◌≤◌, ◌≡◌, ◌⊎◌, ◌↔◌, true}
 use Rattle.frame.specs.declared.Kind.{Kind}
@@ -53,7 +53,6 @@ state_of id i2c control config2 config3 status5 =
             errors = record { single = 0; double = 0; status5 = status5 };
             counters = record { bunch = 0; event = 0 };
             sequence = record { left = 0; event = 0 };
-            kept = record { bunch25 = 0; event27 = 0; event28 = 0 };
           };
       held = record { count = 0; wanted = 0; bits = 0 };
     }
@@ -66,7 +65,6 @@ pub record FreshLaws : Type 0 where
   pub refused_4 : (id i2c : ℕ) → 1 ≤ id → id ≤ 16383 → 63 < i2c → fresh_answer id i2c ≡ refused_fresh 4
   pub zeros : refused_fresh ≡ (λ refusal. fresh_of refusal (state_of 0 0 0 0 0 0))
   -- "Fresh: registers 0, 1 and 2 are 0, control 0x93, Config 2 0x85, Config 3 0xA7, all counters 0, waiting, no sequence, status 0xE0."
-  -- Document 02, Q-5, of the kept bytes: "Fresh: zero."
   pub values : (id i2c : ℕ) → fresh_state (ids id i2c) ≡ state_of id i2c 0x93 0x85 0xA7 1
   pub status : (own : Ids) → status_byte (fresh_core own) ≡ 0xE0
   pub is_well_formed : (id i2c : ℕ) → (fresh_answer id i2c).refusal ≡ 0 → well_formed (fresh_answer id i2c).receiver ≡ true

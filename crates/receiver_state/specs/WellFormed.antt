@@ -1,4 +1,4 @@
--- Document 01, "Well formed", with document 02, Q-1, Q-4 and Q-5: the tests of a state, for refusal 2, and the same as facts, for the proofs. `WellFormedLaw` of
+-- Document 01, "Well formed", with document 02, Q-1 and Q-4: the tests of a state, for refusal 2, and the same as facts, for the proofs. `WellFormedLaw` of
 -- States.antt says that they agree.
 use Rattle.std.specs.Prelude.{ℕ, ◌*◌, ◌%◌, ◌^◌, ◌<◌, ◌≤◌, ◌≡◌, ◌⊎◌, Bool, true, ◌||◌, [], ◌∷◌, eqb, ltb, leb}
 use Rattle.laws.specs.Tests.{every}
@@ -7,7 +7,6 @@ use Rattle.receiver_state.specs.declared.Ids.{Ids}
 use Rattle.receiver_state.specs.declared.Settings.{Settings}
 use Rattle.receiver_state.specs.declared.Counters.{Counters}
 use Rattle.receiver_state.specs.declared.Sequence.{Sequence}
-use Rattle.receiver_state.specs.declared.Kept.{Kept}
 use Rattle.receiver_state.specs.declared.Core.{Core}
 use Rattle.receiver_state.specs.declared.Held.{Held}
 use Rattle.receiver_state.specs.declared.Receiver.{Receiver}
@@ -41,10 +40,6 @@ counters_ok k = every (ltb k.bunch 4096 ∷ ltb k.event (2 ^ 24) ∷ [])
 unfoldable pub sequence_ok : Sequence → Bool
 sequence_ok s = every (leb s.left 2 ∷ ltb s.event (2 ^ 24) ∷ (ltb 0 s.left || eqb s.event 0) ∷ [])
 
--- document 02, Q-5: "The kept bytes belong to the well-formed rule: bunch part under 16."
-abbrev pub kept_ok : Kept → Bool
-kept_ok k = ltb k.bunch25 16
-
 -- and "status bit 5 is a flag"
 unfoldable pub core_ok : Core → Bool
 core_ok core =
@@ -54,7 +49,6 @@ core_ok core =
     ∷ counters_ok core.counters
     ∷ sequence_ok core.sequence
     ∷ leb core.errors.status5 1
-    ∷ kept_ok core.kept
     ∷ [])
 
 -- "the receiver is waiting, or holds 1 to 15 bits of a short or 1 to 41 of a long frame, start and format as required, and no bits beyond":
@@ -95,16 +89,12 @@ pub record SequenceFacts (s : Sequence) : Type 0 where
   pub kept_below : s.event < 2 ^ 24
   pub none_kept : s.left ≡ 0 → s.event ≡ 0
 
-pub record KeptFacts (k : Kept) : Type 0 where
-  pub bunch_part_below : k.bunch25 < 16
-
 pub record CoreFacts (core : Core) : Type 0 where
   pub of_ids : IdsFacts core.ids
   pub of_settings : SettingsFacts core.settings
   pub of_counters : CountersFacts core.counters
   pub of_sequence : SequenceFacts core.sequence
   pub flag : core.errors.status5 ≤ 1
-  pub of_kept : KeptFacts core.kept
 
 pub record HeldFacts (h : Held) : Type 0 where
   pub few : h.count ≤ 41

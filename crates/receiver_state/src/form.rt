@@ -1,4 +1,4 @@
-// Document 01, "Well formed", with document 02, Q-1, Q-4 and Q-5: the tests of each part of a state.
+// Document 01, "Well formed", with document 02, Q-1 and Q-4: the tests of each part of a state.
 ghost use Rattle.std.specs.Prelude.{◌≡◌, ◌<◌, ◌^◌};
 ghost use Rattle.receiver_state.specs.WellFormed.{ids_ok, settings_ok, counters_ok, sequence_ok, core_ok, bits_ok, wanted_ok, held_ok};
 
@@ -67,11 +67,7 @@ pub(crate) fn core_ok(core: Core) -> bool
     if !sequence_ok(core.sequence) {
         return false;
     }
-    if core.errors.status5 > 1 {
-        return false;
-    }
-    // The kept bytes of the event number may be any.
-    core.kept.bunch25 < 16
+    core.errors.status5 <= 1
 }
 
 // A shift, as a power of two.

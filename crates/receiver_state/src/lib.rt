@@ -1,7 +1,7 @@
-// Document 01, "Registers" (fresh) and "Well formed", with document 02, Q-1 and Q-5: the state of a
-// receiver; "One clock", with Q-8: what a clock shows.
+// Document 01, "Registers" (fresh) and "Well formed": the state of a receiver; "One clock": what a
+// clock shows.
 //
-// It goes by value: it is 56 bytes of plain data, a refusal hands it back as it came, and a
+// It goes by value: it is some 50 bytes of plain data, a refusal hands it back as it came, and a
 // caller may keep any copy. Its parts are nested by what changes together. A field that "Well
 // formed" has no clause for has a type that is exactly as wide as document 01's range, so that the
 // test has the papers' clauses and no others.
@@ -57,17 +57,6 @@ pub struct Sequence {
     pub event: u32,
 }
 
-// The kept bytes, each named after the register that shows it: the upper byte of the bunch number when
-// 24 was read last, and the two upper bytes of the event number when 26 was; 0 before such a read, and
-// after the counter was cleared.
-#[repr(C)]
-#[derive(Drop)]
-pub struct Kept {
-    pub bunch25: u8,
-    pub event27: u8,
-    pub event28: u8,
-}
-
 // All of a receiver but what it keeps of channel B.
 #[repr(C)]
 #[derive(Drop)]
@@ -77,7 +66,6 @@ pub struct Core {
     pub errors: Errors,
     pub counters: Counters,
     pub sequence: Sequence,
-    pub kept: Kept,
 }
 
 // What is kept of channel B: the bits of an unfinished frame, the first received most significant; or
@@ -159,7 +147,7 @@ pub fn well_formed(receiver: Receiver) -> bool
     held_ok(receiver.held)
 }
 
-// Counters and kept bytes at 0, and no sequence.
+// Counters at 0, and no sequence.
 fn core_of(ids: Ids, settings: Settings, status5: u8) -> Core
     ensures { result ≡ new_core ids settings status5 }
 {
@@ -173,11 +161,6 @@ fn core_of(ids: Ids, settings: Settings, status5: u8) -> Core
         },
         counters: Counters { bunch: 0, event: 0 },
         sequence: Sequence { left: 0, event: 0 },
-        kept: Kept {
-            bunch25: 0,
-            event27: 0,
-            event28: 0,
-        },
     }
 }
 

@@ -1,6 +1,6 @@
 -- A change of the register map keeps the core well formed. Assumes nothing.
 use mathlib.Core.Path.{◌≡◌, refl, sym, subst, ◌∙◌}
-use mathlib.Core.Logic.{◌⊎◌, inl, inr}
+use mathlib.Core.Logic.{inl, inr}
 use mathlib.Core.Bool.{true, false, cond, true≢false}
 use Prim.Native.Nat.{ℕ, ◌%◌, ◌^◌}
 use native.Mathlib.Omega.{arith}
@@ -11,12 +11,13 @@ use Rattle.fine_delay.specs.Delay.{has_setting}
 use Rattle.fine_delay.proofs.Laws.{setting_laws}
 use Rattle.receiver_state.specs.declared.Settings.{Settings}
 use Rattle.receiver_state.specs.declared.Errors.{Errors}
+use Rattle.receiver_state.specs.declared.Counters.{Counters}
 use Rattle.receiver_state.specs.declared.Core.{Core}
-use Rattle.receiver_state.specs.State.{fresh_settings, with_settings, with_errors}
+use Rattle.receiver_state.specs.State.{fresh_settings, with_settings, with_errors, with_counters}
 use Rattle.receiver_state.specs.WellFormed.{config_ok, SettingsFacts, CoreFacts}
-use Rattle.receiver_state.proofs.Changes.{settings_changed, errors_changed, counters_changed, kept_changed}
+use Rattle.receiver_state.proofs.Changes.{settings_changed, errors_changed, counters_changed}
 use Rattle.register_map.specs.Map.{without_setting, config_wrong}
-use Rattle.register_map.specs.Change.{stored, store_byte, with_configs, clear_bunch, clear_event, after_write, after_read}
+use Rattle.register_map.specs.Change.{stored, store_byte, with_configs, clear_bunch, clear_event, after_write}
 use Rattle.register_map.specs.Laws.{DelayRegister, KeepLaws}
 use Rattle.register_map.proofs.Laws.{without_setting_law}
 
@@ -43,14 +44,10 @@ store_keeps number byte core w f =
     f
 
 pub bunch_keeps : (core : Core) → CoreFacts core → CoreFacts (clear_bunch core)
-bunch_keeps core f =
-    kept_changed _ _ (record { bunch_part_below = omega arith })
-    (counters_changed _ core (record { bunch_below = omega arith; event_below = f.of_counters.event_below }) f)
+bunch_keeps core f = counters_changed _ core (record { bunch_below = omega arith; event_below = f.of_counters.event_below }) f
 
 pub event_keeps : (core : Core) → CoreFacts core → CoreFacts (clear_event core)
-event_keeps core f =
-    kept_changed _ _ (record { bunch_part_below = f.of_kept.bunch_part_below })
-    (counters_changed _ core (record { bunch_below = f.of_counters.bunch_below; event_below = omega arith }) f)
+event_keeps core f = counters_changed _ core (record { bunch_below = f.of_counters.bunch_below; event_below = omega arith }) f
 
 pub write_keeps : (core : Core) (number value : ℕ) → without_setting number value ≡ false → config_wrong number value ≡ false → CoreFacts core
     → CoreFacts (after_write core number value)
@@ -76,22 +73,14 @@ write_keeps core number value w e f =
         → SettingsFacts (with_configs config2 config3 core.settings)
     configs config2 config3 a b = record { fine_1 = f.of_settings.fine_1; fine_2 = f.of_settings.fine_2; config_2 = a; config_3 = b }
 
--- the upper part of a bunch number below 4096 is below 16
-pub read_keeps : (core : Core) (number : ℕ) → CoreFacts core → CoreFacts (after_read core number)
-unfolding after_read
-read_keeps core number f =
-    picked CoreFacts (eqb number 24) (kept_changed _ core (record { bunch_part_below = omega (arith, f.of_counters.bunch_below) }) f)
-    (picked CoreFacts (eqb number 26) (kept_changed _ core (record { bunch_part_below = f.of_kept.bunch_part_below }) f) f)
-
 pub keep_laws : KeepLaws
-keep_laws = record { store_keeps = store_keeps; bunch_keeps = bunch_keeps; event_keeps = event_keeps; write_keeps = write_keeps; read_keeps = read_keeps }
+keep_laws = record { store_keeps = store_keeps; bunch_keeps = bunch_keeps; event_keeps = event_keeps; write_keeps = write_keeps }
 
--- what holds of the core, with any settings or error counters changed, and with a counter cleared if the register is one of its own, holds after a write
+-- what holds of the core, and with any settings, error counters or counters changed, holds after a write
 pub write_changes : (P : Core → Type 0) (core : Core) (number value : ℕ) → ((new : Settings) → P (with_settings new core))
-    → ((new : Errors) → P (with_errors new core)) → ((number ≡ 24) ⊎ (number ≡ 25) → P (clear_bunch core))
-    → ((number ≡ 26) ⊎ ((number ≡ 27) ⊎ (number ≡ 28)) → P (clear_event core)) → P core → P (after_write core number value)
+    → ((new : Errors) → P (with_errors new core)) → ((new : Counters) → P (with_counters new core)) → P core → P (after_write core number value)
 unfolding after_write
-write_changes P core number value settings errors bunch event same =
+write_changes P core number value settings errors counters same =
     picked P (ltb number 4) (settings _)
     (picked P (eqb number 8) (errors _)
     (picked P (eqb number 9) (errors _)
@@ -99,8 +88,8 @@ write_changes P core number value settings errors bunch event same =
     (picked P (eqb number 11) same
     (picked P (eqb number 20) (settings _)
     (picked P (eqb number 21) (settings _)
-    (picked_by P (eqb number 24) (λ t. bunch (inl (eqb-true number 24 t)))
-    (λ t. picked_by P (eqb number 25) (λ u. bunch (inr (eqb-true number 25 u)))
-    (λ u. picked_by P (eqb number 26) (λ v. event (inl (eqb-true number 26 v)))
-    (λ v. picked_by P (eqb number 27) (λ w. event (inr (inl (eqb-true number 27 w))))
-    (λ w. picked_by P (eqb number 28) (λ x. event (inr (inr (eqb-true number 28 x)))) (λ x. same))))))))))))
+    (picked P (eqb number 24) (counters _)
+    (picked P (eqb number 25) (counters _)
+    (picked P (eqb number 26) (counters _)
+    (picked P (eqb number 27) (counters _)
+    (picked P (eqb number 28) (counters _) same)))))))))))

@@ -16,7 +16,7 @@ use Rattle.fine_delay.specs.Delay.{has_setting}
 use Rattle.fine_delay.proofs.Laws.{setting_laws}
 use Rattle.receiver_state.specs.declared.Core.{Core}
 use Rattle.register_map.specs.Map.{map_numbers, in_map, register_byte, without_setting}
-use Rattle.register_map.specs.Change.{clear_bunch, clear_event, after_read}
+use Rattle.register_map.specs.Change.{clear_bunch, clear_event}
 use Rattle.register_map.specs.Laws.{gaps, MapLaws, ByteLaws, DelayRegister, ByteWithoutSetting, WithoutSettingLaw, ClearLaws}
 
 -- ---- the numbers of the map
@@ -81,7 +81,7 @@ three_bytes : (n : ℕ) → n < 2 ^ 24 → n / 2 ^ 0 % 2 ^ 8 + n / 2 ^ 8 % 2 ^ 8
 three_bytes n h = omega arith
 
 pub byte_laws : ByteLaws
-unfolding register_byte after_read
+unfolding register_byte
 byte_laws =
     record {
       single_bytes = λ core h. two_bytes core.errors.single h;
@@ -89,8 +89,6 @@ byte_laws =
       bunch_bytes = λ core f. two_bytes core.counters.bunch (omega (arith, f.of_counters.bunch_below));
       event_bytes = λ core f. three_bytes core.counters.event f.of_counters.event_below;
       lower_bytes = λ core. (mod-lt _ (lit< tt), mod-lt _ (lit< tt), mod-lt _ (lit< tt), mod-lt _ (lit< tt), mod-lt _ (lit< tt));
-      kept_shown = λ core. (refl, refl, refl);
-      kept_not_shown = λ core kept number a b c. rw (ne_eqb number 25 a, ne_eqb number 27 b, ne_eqb number 28 c) refl;
       setting_bytes = λ core. (refl, refl, refl, refl);
       config_bytes = λ core. (refl, refl);
       double_byte = λ core. refl;
@@ -122,5 +120,4 @@ clear_laws =
       bunch_alone = λ core number a b. rw (ne_eqb number 24 a, ne_eqb number 25 b) refl;
       event_zero = event_zero;
       event_alone = λ core number a b c. rw (ne_eqb number 26 a, ne_eqb number 27 b, ne_eqb number 28 c) refl;
-      reset_clears = λ own. (refl, refl);
     }

@@ -1,4 +1,3 @@
 pub mod Keep
-pub mod Read
 pub mod Stored
 pub mod Laws

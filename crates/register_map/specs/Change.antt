@@ -1,10 +1,8 @@
--- Document 01, "Registers", with document 02, Q-5: what the table's column "write" does to the core, and what a read keeps in it. A broadcast and row 2
--- of the table of verdicts use the same definitions.
+-- Document 01, "Registers": what the table's column "write" does to the core. A broadcast and row 2 of the table of verdicts use the same definitions.
 use Rattle.std.specs.Prelude.{ℕ, cond, eqb, ltb}
 use Rattle.receiver_state.specs.declared.Settings.{Settings}
 use Rattle.receiver_state.specs.declared.Core.{Core}
-use Rattle.receiver_state.specs.State.{errors, counters, kept_bytes, with_settings, with_errors, with_counters, with_kept}
-use Rattle.register_map.specs.Map.{byte_at}
+use Rattle.receiver_state.specs.State.{errors, counters, with_settings, with_errors, with_counters}
 
 -- ---- a byte stored
 
@@ -42,13 +40,11 @@ clear_single core = with_errors (errors 0 core.errors.double core.errors.status5
 abbrev pub clear_double : Core → Core
 clear_double core = with_errors (errors core.errors.single 0 core.errors.status5) core
 
--- document 02, Q-5: "Clearing a counter by register, broadcast or RESET clears its kept bytes." A register write and a broadcast go by these two. RESET
--- leaves the fresh core, in which both have nothing left to clear: `reset_clears` of Laws.antt.
 abbrev pub clear_bunch : Core → Core
-clear_bunch core = with_kept (kept_bytes 0 core.kept.event27 core.kept.event28) (with_counters (counters 0 core.counters.event) core)
+clear_bunch core = with_counters (counters 0 core.counters.event) core
 
 abbrev pub clear_event : Core → Core
-clear_event core = with_kept (kept_bytes core.kept.bunch25 0 0) (with_counters (counters core.counters.bunch 0) core)
+clear_event core = with_counters (counters core.counters.bunch 0) core
 
 -- ---- a register write
 
@@ -67,28 +63,11 @@ after_write core number value =
     -- 20, 21: as refusal 7 lets through no other byte, "only bit 7" changes
     (cond (eqb number 20) (set_config2 value core)
     (cond (eqb number 21) (set_config3 value core)
-    -- 24, 25: "clears both bytes", and the kept one
+    -- 24, 25: "clears both bytes"
     (cond (eqb number 24) (clear_bunch core)
     (cond (eqb number 25) (clear_bunch core)
-    -- 26, 27, 28: "clears all three", and the kept ones
+    -- 26, 27, 28: "clears all three"
     (cond (eqb number 26) (clear_event core)
     (cond (eqb number 27) (clear_event core)
     (cond (eqb number 28) (clear_event core)
     core)))))))))))
-
--- ---- a register read
-
--- document 02, Q-5: "Reading 24 keeps the upper part for 25."
-abbrev pub keep_bunch : Core → Core
-keep_bunch core = with_kept (kept_bytes (byte_at 1 core.counters.bunch) core.kept.event27 core.kept.event28) core
-
--- "Reading 26 shall keep the upper two bytes of that moment"
-abbrev pub keep_event : Core → Core
-keep_event core = with_kept (kept_bytes core.kept.bunch25 (byte_at 1 core.counters.event) (byte_at 2 core.counters.event)) core
-
--- the core after a read that is not refused; a read of any other number changes nothing
-unfoldable pub after_read : Core → ℕ → Core
-after_read core number =
-    cond (eqb number 24) (keep_bunch core)
-    (cond (eqb number 26) (keep_event core)
-    core)

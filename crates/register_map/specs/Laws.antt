@@ -1,14 +1,10 @@
--- Document 01, "Registers", with document 02, Q-4 and Q-5: what holds of the map and of every change. Proved in proofs/Laws.antt, proofs/Stored.antt,
--- proofs/Read.antt and proofs/Keep.antt.
+-- Document 01, "Registers", with document 02, Q-4: what holds of the map and of every change. Proved in proofs/Laws.antt, proofs/Stored.antt and proofs/Keep.antt.
 use Rattle.std.specs.Prelude.{ℕ, ◌+◌, ◌*◌, ◌^◌, ◌<◌, ◌≤◌, ◌≡◌, ◌≢◌, ◌⊎◌, ◌↔◌, true, false, not, List, [], ◌∷◌}
 use Rattle.laws.specs.OneOf.{one_of}
-use Rattle.receiver_state.specs.declared.Ids.{Ids}
-use Rattle.receiver_state.specs.declared.Kept.{Kept}
 use Rattle.receiver_state.specs.declared.Core.{Core}
-use Rattle.receiver_state.specs.State.{with_kept, fresh_core}
 use Rattle.receiver_state.specs.WellFormed.{CoreFacts}
 use Rattle.register_map.specs.Map.{in_map, register_byte, without_setting, config_wrong}
-use Rattle.register_map.specs.Change.{store_byte, clear_bunch, clear_event, after_write, after_read}
+use Rattle.register_map.specs.Change.{store_byte, clear_bunch, clear_event, after_write}
 
 -- ---- the numbers of the map
 
@@ -26,19 +22,12 @@ pub record ByteLaws : Type 0 where
   -- "low byte first": the bytes of a number, put together again
   pub single_bytes : (core : Core) → core.errors.single < 2 ^ 16 → register_byte core 8 + register_byte core 9 * 2 ^ 8 ≡ core.errors.single
   pub id_bytes : (core : Core) → CoreFacts core → register_byte core 16 + register_byte core 17 * 2 ^ 8 ≡ core.ids.id
-  -- of the bunch and the event counter the upper bytes are those that the read of the low byte leaves
-  pub bunch_bytes : (core : Core) → CoreFacts core → register_byte core 24 + register_byte (after_read core 24) 25 * 2 ^ 8 ≡ core.counters.bunch
-  pub event_bytes : (core : Core) → CoreFacts core → let kept = register_byte (after_read core 26) in
-      register_byte core 26 + kept 27 * 2 ^ 8 + kept 28 * 2 ^ 16 ≡ core.counters.event
+  pub bunch_bytes : (core : Core) → CoreFacts core → register_byte core 24 + register_byte core 25 * 2 ^ 8 ≡ core.counters.bunch
+  pub event_bytes : (core : Core) → CoreFacts core
+      → register_byte core 26 + register_byte core 27 * 2 ^ 8 + register_byte core 28 * 2 ^ 16 ≡ core.counters.event
   -- each but the last of them is a byte
   pub lower_bytes : (core : Core) → let byte = register_byte core in
-      (byte 8 < 2 ^ 8) × (byte 16 < 2 ^ 8) × (byte 24 < 2 ^ 8) × (byte 26 < 2 ^ 8) × (register_byte (after_read core 26) 27 < 2 ^ 8)
-  -- document 02, Q-5: 25, "27 and 28 show the kept ones"
-  pub kept_shown : (core : Core) → let byte = register_byte core in
-      (byte 25 ≡ core.kept.bunch25) × (byte 27 ≡ core.kept.event27) × (byte 28 ≡ core.kept.event28)
-  -- and no other register shows them
-  pub kept_not_shown : (core : Core) (kept : Kept) (number : ℕ) → number ≢ 25 → number ≢ 27 → number ≢ 28
-      → register_byte (with_kept kept core) number ≡ register_byte core number
+      (byte 8 < 2 ^ 8) × (byte 16 < 2 ^ 8) × (byte 24 < 2 ^ 8) × (byte 26 < 2 ^ 8) × (byte 27 < 2 ^ 8)
   pub setting_bytes : (core : Core) → let byte = register_byte core in
       (byte 0 ≡ core.settings.fine1) × (byte 1 ≡ core.settings.fine2) × (byte 2 ≡ core.settings.coarse) × (byte 3 ≡ core.settings.control)
   pub config_bytes : (core : Core) → (register_byte core 20 ≡ core.settings.config2) × (register_byte core 21 ≡ core.settings.config3)
@@ -71,31 +60,17 @@ pub record StoreLaws : Type 0 where
   pub stored_back : (core : Core) (number byte : ℕ) → number < 4 → register_byte (store_byte number byte core) number ≡ byte
   pub others_stay : (core : Core) (number byte other : ℕ) → other ≢ number → register_byte (store_byte number byte core) other ≡ register_byte core other
 
--- the bunch or event counter cleared, by a register write or a broadcast: it shows 0 in every byte, the kept ones too, and no other register changes
+-- the bunch or event counter cleared, by a register write or a broadcast: it shows 0 in every byte, and no other register changes
 pub record ClearLaws : Type 0 where
   pub bunch_zero : (core : Core) (number : ℕ) → (number ≡ 24) ⊎ (number ≡ 25) → register_byte (clear_bunch core) number ≡ 0
   pub bunch_alone : (core : Core) (number : ℕ) → number ≢ 24 → number ≢ 25 → register_byte (clear_bunch core) number ≡ register_byte core number
   pub event_zero : (core : Core) (number : ℕ) → (number ≡ 26) ⊎ ((number ≡ 27) ⊎ (number ≡ 28)) → register_byte (clear_event core) number ≡ 0
   pub event_alone : (core : Core) (number : ℕ) → number ≢ 26 → number ≢ 27 → number ≢ 28 → register_byte (clear_event core) number ≡ register_byte core number
-  -- RESET leaves the fresh core, in which both have nothing left to clear
-  pub reset_clears : (own : Ids) → (clear_bunch (fresh_core own) ≡ fresh_core own) × (clear_event (fresh_core own) ≡ fresh_core own)
 
--- document 02, Q-5: what a read leaves of the core. All but the kept bytes stay; only 24 and 26 change those, each its own.
-pub record LeftByRead (core : Core) (number : ℕ) (after : Core) : Type 0 where
-  pub kept_alone : with_kept core.kept after ≡ core
-  pub others_none : number ≢ 24 → number ≢ 26 → after ≡ core
-  pub bunch_by_24 : number ≢ 24 → after.kept.bunch25 ≡ core.kept.bunch25
-  pub event_by_26 : number ≢ 26 → (after.kept.event27 ≡ core.kept.event27) × (after.kept.event28 ≡ core.kept.event28)
-
-abbrev pub ReadLeaves : Type 0
-ReadLeaves = (core : Core) (number : ℕ) → LeftByRead core number (after_read core number)
-
--- the core stays well formed; by a byte stored, unless it is one without a setting; by a register write, if refusals 17 and 7 let the byte through; by
--- every read
+-- the core stays well formed; by a byte stored, unless it is one without a setting; by a register write, if refusals 17 and 7 let the byte through
 pub record KeepLaws : Type 0 where
   pub store_keeps : (number byte : ℕ) (core : Core) → without_setting number byte ≡ false → CoreFacts core → CoreFacts (store_byte number byte core)
   pub bunch_keeps : (core : Core) → CoreFacts core → CoreFacts (clear_bunch core)
   pub event_keeps : (core : Core) → CoreFacts core → CoreFacts (clear_event core)
   pub write_keeps : (core : Core) (number value : ℕ) → without_setting number value ≡ false → config_wrong number value ≡ false → CoreFacts core
       → CoreFacts (after_write core number value)
-  pub read_keeps : (core : Core) (number : ℕ) → CoreFacts core → CoreFacts (after_read core number)

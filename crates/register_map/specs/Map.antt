@@ -1,4 +1,4 @@
--- Document 01, "Registers", with document 02, Q-4 and Q-5: the table's columns "number" and "holds", and which writes its column "write" refuses.
+-- Document 01, "Registers", with document 02, Q-4: the table's columns "number" and "holds", and which writes its column "write" refuses.
 use Rattle.std.specs.Prelude.{ℕ, ◌*◌, ◌/◌, ◌%◌, ◌^◌, Bool, false, cond, not, List, [], ◌∷◌, eqb, ltb}
 use Rattle.laws.specs.OneOf.{one_of}
 use Rattle.fine_delay.specs.Delay.{has_setting}
@@ -50,13 +50,13 @@ register_byte core number =
     (cond (eqb number 21) core.settings.config3
     -- "status"
     (cond (eqb number 22) (status_byte core)
-    -- "bunch counter, low byte first"; document 02, Q-5: "Reading 24 keeps the upper part for 25."
+    -- "bunch counter, low byte first"
     (cond (eqb number 24) (byte_at 0 core.counters.bunch)
-    (cond (eqb number 25) core.kept.bunch25
-    -- "event counter, low byte first"; document 02, Q-5: "27 and 28 show the kept ones"
+    (cond (eqb number 25) (byte_at 1 core.counters.bunch)
+    -- "event counter, low byte first"
     (cond (eqb number 26) (byte_at 0 core.counters.event)
-    (cond (eqb number 27) core.kept.event27
-    (cond (eqb number 28) core.kept.event28
+    (cond (eqb number 27) (byte_at 1 core.counters.event)
+    (cond (eqb number 28) (byte_at 2 core.counters.event)
     0))))))))))))))))))
 
 -- ---- column "write"

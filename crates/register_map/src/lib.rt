@@ -1,11 +1,11 @@
-// Document 01, "Registers", with document 02, Q-4 and Q-5: which numbers are registers, what each
-// holds, which bytes may not be written, and what a write and a read do to the core. Every function
-// takes any number, byte and core.
+// Document 01, "Registers", with document 02, Q-4: which numbers are registers, what each holds, which
+// bytes may not be written, and what a write does to the core. Every function takes any number, byte
+// and core.
 //
 // The core goes by value, like the state that it belongs to.
 ghost use Rattle.std.specs.Prelude.{◌≡◌};
 ghost use Rattle.register_map.specs.Map.{in_map, register_byte, read_only, without_setting, config_wrong};
-ghost use Rattle.register_map.specs.Change.{store_byte, set_config2, set_config3, clear_single, clear_double, clear_bunch, clear_event, after_write, keep_bunch, keep_event, after_read};
+ghost use Rattle.register_map.specs.Change.{store_byte, set_config2, set_config3, clear_single, clear_double, clear_bunch, clear_event, after_write};
 
 use fine_delay::has_setting;
 use receiver_state::Core;
@@ -73,7 +73,7 @@ pub fn config_wrong(number: u8, value: u8) -> bool
 }
 
 // The byte that a register holds, 0 where the number is not in the map. A counter shows its low byte
-// first. The upper bytes of the bunch and event counters are the kept ones.
+// first.
 pub fn register_byte(core: Core, number: u8) -> u8
     ensures { result ≡ register_byte core number }
 {
@@ -93,10 +93,10 @@ pub fn register_byte(core: Core, number: u8) -> u8
         21 => core.settings.config3,
         22 => 0xC0 + core.errors.status5 % 2 * 0x20,
         24 => (core.counters.bunch % 0x100) as u8,
-        25 => core.kept.bunch25,
+        25 => (core.counters.bunch / 0x100 % 0x100) as u8,
         26 => (core.counters.event % 0x100) as u8,
-        27 => core.kept.event27,
-        28 => core.kept.event28,
+        27 => (core.counters.event / 0x100 % 0x100) as u8,
+        28 => (core.counters.event / 0x1_0000 % 0x100) as u8,
         _ => 0,
     }
 }
@@ -152,32 +152,25 @@ fn clear_double(core: Core) -> Core
     next
 }
 
-// The bunch counter cleared, with its kept byte, by a register write or by a broadcast.
+// The bunch counter cleared, by a register write or by a broadcast.
 pub fn clear_bunch(core: Core) -> Core
     ensures { result ≡ clear_bunch core }
 {
     let mut counters = core.counters;
     counters.bunch = 0;
-    let mut kept = core.kept;
-    kept.bunch25 = 0;
     let mut next = core;
     next.counters = counters;
-    next.kept = kept;
     next
 }
 
-// The event counter cleared, with its kept bytes, by a register write or by a broadcast.
+// The event counter cleared, by a register write or by a broadcast.
 pub fn clear_event(core: Core) -> Core
     ensures { result ≡ clear_event core }
 {
     let mut counters = core.counters;
     counters.event = 0;
-    let mut kept = core.kept;
-    kept.event27 = 0;
-    kept.event28 = 0;
     let mut next = core;
     next.counters = counters;
-    next.kept = kept;
     next
 }
 
@@ -223,41 +216,4 @@ pub fn write_byte(core: Core, number: u8, value: u8) -> Core
         28 => clear_event(core),
         _ => core,
     }
-}
-
-// The upper byte of the bunch number, kept for register 25.
-fn keep_bunch(core: Core) -> Core
-    ensures { result ≡ keep_bunch core }
-{
-    let mut kept = core.kept;
-    kept.bunch25 = (core.counters.bunch / 0x100 % 0x100) as u8;
-    let mut next = core;
-    next.kept = kept;
-    next
-}
-
-// The two upper bytes of the event number, kept for registers 27 and 28.
-fn keep_event(core: Core) -> Core
-    ensures { result ≡ keep_event core }
-{
-    let mut kept = core.kept;
-    kept.event27 = (core.counters.event / 0x100 % 0x100) as u8;
-    kept.event28 = (core.counters.event / 0x1_0000 % 0x100) as u8;
-    let mut next = core;
-    next.kept = kept;
-    next
-}
-
-// The core after a register was read: a read of the low byte of the bunch or event counter keeps the
-// upper bytes of that moment; any other read changes nothing.
-pub fn keep_bytes(core: Core, number: u8) -> Core
-    ensures { result ≡ after_read core number }
-{
-    if number == 24 {
-        return keep_bunch(core);
-    }
-    if number == 26 {
-        return keep_event(core);
-    }
-    core
 }

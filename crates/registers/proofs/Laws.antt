@@ -1,32 +1,38 @@
--- What holds of every register write, and of a read after one. Assumes nothing.
-use mathlib.Core.Path.{◌≡◌, refl, sym, ap, subst, ◌∙◌}
+-- What holds of every register read and every register write. Assumes nothing.
+use mathlib.Core.Path.{◌≡◌, refl, sym, ap, ◌∙◌}
 use mathlib.Core.Logic.{◌≢◌, inl, inr, ⊎_elim}
 use mathlib.Core.Bool.{true, false}
 use Prim.Native.Nat.{ℕ, ◌%◌, ◌^◌, ◌<◌}
-use native.Mathlib.Omega.{arith}
 use borrow.Author.Tests.{ne_eqb, eqb-true}
 use lib.Dec.{eqb}
 use Rattle.laws.specs.OneOf.{one_of}
 use Rattle.laws.proofs.Rules.{picked, picked_by, by_test}
-use Rattle.receiver_state.specs.declared.Settings.{Settings}
 use Rattle.receiver_state.specs.declared.Core.{Core}
 use Rattle.receiver_state.specs.declared.Receiver.{Receiver}
-use Rattle.receiver_state.specs.State.{receiver, with_settings}
+use Rattle.receiver_state.specs.State.{errors, counters, receiver, with_settings, with_errors, with_counters}
 use Rattle.receiver_state.specs.WellFormed.{well_formed}
 use Rattle.receiver_state.proofs.WellFormed.{receiver_facts, receiver_ok}
 use Rattle.register_map.specs.Map.{in_map, register_byte, read_only, without_setting, config_wrong}
-use Rattle.register_map.specs.Change.{stored, clear_single, clear_bunch, clear_event, after_write, after_read}
+use Rattle.register_map.specs.Change.{stored, after_write}
 use Rattle.register_map.specs.Laws.{DelayRegister, ByteWithoutSetting}
 use Rattle.register_map.proofs.Laws.{without_setting_law}
 use Rattle.register_map.proofs.Keep.{write_keeps, write_changes}
 use Rattle.register_map.proofs.Stored.{below_4, store_laws}
-use Rattle.register_map.proofs.Read.{read_leaves}
-use Rattle.registers.specs.declared.ReadAnswer.{ReadAnswer}
 use Rattle.registers.specs.declared.WriteAnswer.{WriteAnswer}
-use Rattle.registers.specs.Access.{byte_answer, read_from, read_answer, write_refusal, written_to, refused_write, write_answer}
-use Rattle.registers.specs.Laws.{SingleByte, BunchByte, EventByte, written, read_after, ReadOnly, WriteLaws, ReadBack}
+use Rattle.registers.specs.Access.{byte_answer, read_refusal, read_answer, write_refusal, written_to, refused_write, write_answer}
+use Rattle.registers.specs.Laws.{ReadLaws, SingleByte, BunchByte, EventByte, read_after, ReadOnly, WriteLaws, ReadBack}
 use Rattle.registers.proofs.WriteRefusal.{gave}
-use Rattle.registers.proofs.Reading.{accepted, read_laws}
+
+-- ---- reads
+
+pub read_laws : ReadLaws
+unfolding read_answer read_refusal
+read_laws =
+    record {
+      refused_by_2 = λ r number e. rw e refl;
+      refused_by_5 = λ r number e f. rw (e, f) refl;
+      accepted = λ r number e f. rw (e, f) refl;
+    }
 
 -- ---- writes
 
@@ -56,30 +62,12 @@ answer_keeps P r number value same changed =
 ids_stay : (r : Receiver) (number value : ℕ) → (write_answer r number value).receiver.core.ids ≡ r.core.ids
 ids_stay r number value =
     answer_keeps (λ (x : Receiver). x.core.ids ≡ r.core.ids) r number value refl
-    (write_changes (λ (core : Core). core.ids ≡ r.core.ids) r.core number value (λ new. refl) (λ new. refl) (λ n. refl) (λ n. refl) refl)
+    (write_changes (λ (core : Core). core.ids ≡ r.core.ids) r.core number value (λ new. refl) (λ new. refl) (λ new. refl) refl)
 
 sequence_stays : (r : Receiver) (number value : ℕ) → (write_answer r number value).receiver.core.sequence ≡ r.core.sequence
 sequence_stays r number value =
     answer_keeps (λ (x : Receiver). x.core.sequence ≡ r.core.sequence) r number value refl
-    (write_changes (λ (core : Core). core.sequence ≡ r.core.sequence) r.core number value (λ new. refl) (λ new. refl) (λ n. refl) (λ n. refl) refl)
-
-bunch_kept_stays : (r : Receiver) (number value : ℕ) → (BunchByte number → ⊥)
-    → (write_answer r number value).receiver.core.kept.bunch25 ≡ r.core.kept.bunch25
-bunch_kept_stays r number value n =
-    answer_keeps (λ (x : Receiver). Same x.core) r number value refl
-    (write_changes Same r.core number value (λ new. refl) (λ new. refl) (λ own. absurd (n own)) (λ other. refl) refl)
-  where
-    Same : Core → Type 0
-    Same core = core.kept.bunch25 ≡ r.core.kept.bunch25
-
-event_kept_stays : (r : Receiver) (number value : ℕ) → (EventByte number → ⊥) → let kept = (write_answer r number value).receiver.core.kept in
-    (kept.event27 ≡ r.core.kept.event27) × (kept.event28 ≡ r.core.kept.event28)
-event_kept_stays r number value n =
-    answer_keeps (λ (x : Receiver). Same x.core) r number value (refl, refl)
-    (write_changes Same r.core number value (λ new. (refl, refl)) (λ new. (refl, refl)) (λ other. (refl, refl)) (λ own. absurd (n own)) (refl, refl))
-  where
-    Same : Core → Type 0
-    Same core = (core.kept.event27 ≡ r.core.kept.event27) × (core.kept.event28 ≡ r.core.kept.event28)
+    (write_changes (λ (core : Core). core.sequence ≡ r.core.sequence) r.core number value (λ new. refl) (λ new. refl) (λ new. refl) refl)
 
 refused_6 : (r : Receiver) (number value : ℕ) → well_formed r ≡ true → ReadOnly number → write_answer r number value ≡ refused_write 6 r
 unfolding write_answer write_refusal in_map read_only one_of
@@ -108,7 +96,7 @@ byte_stored r number value e h n =
     (by_test (without_setting number value) (λ w. absurd (n ((without_setting_law number value).0 w))) (λ w. w))
 
 event_cleared : (r : Receiver) (number value : ℕ) → well_formed r ≡ true → EventByte number
-    → write_answer r number value ≡ written_to r (clear_event r.core)
+    → write_answer r number value ≡ written_to r (with_counters (counters r.core.counters.bunch 0) r.core)
 unfolding write_answer write_refusal after_write in_map read_only without_setting config_wrong one_of
 event_cleared r number value e (inl n) = rw (e, n) refl
 event_cleared r number value e (inr (inl n)) = rw (e, n) refl
@@ -136,90 +124,63 @@ write_laws =
       ids_stay = ids_stay;
       sequence_stays = sequence_stays;
       held_stays = λ r number value. answer_keeps (λ (x : Receiver). x.held ≡ r.held) r number value refl refl;
-      bunch_kept_stays = bunch_kept_stays;
-      event_kept_stays = event_kept_stays;
     }
 
--- a read after a write that left this core, if it keeps what was kept
+-- a read after a write that left this core
 read_after_lem : (r : Receiver) (number value other : ℕ) (core : Core) (byte : ℕ) → well_formed r ≡ true → write_answer r number value ≡ written_to r core
-    → in_map other ≡ true → register_byte core other ≡ byte → after_read core other ≡ core
-    → read_after r number value other ≡ byte_answer 0 byte (written r number value)
-read_after_lem r number value other core byte e w i b k =
-    accepted (written r number value) other (stays r number value e) i
-    ∙ subst (λ (x : Receiver). byte_answer 0 (register_byte x.core other) (read_from x other) ≡ byte_answer 0 byte x)
-    (sym (ap (λ (done : WriteAnswer). done.receiver) w)) (rw (b, k) refl)
+    → in_map other ≡ true → register_byte core other ≡ byte → read_after r number value other ≡ byte_answer 0 byte
+read_after_lem r number value other core byte e w i b =
+    read_laws.accepted (write_answer r number value).receiver other (stays r number value e) i
+    ∙ ap (byte_answer 0) (ap (λ (done : WriteAnswer). register_byte done.receiver.core other) w ∙ b)
 
 in_map_4 : (number : ℕ) → number < 4 → in_map number ≡ true
 unfolding in_map one_of
 in_map_4 number h = below_4 (λ (n : ℕ). in_map n ≡ true) refl refl refl refl number h
 
-stored_byte : (r : Receiver) (number value : ℕ) → well_formed r ≡ true → number < 4 → (ByteWithoutSetting number value → ⊥)
-    → read_after r number value number ≡ byte_answer 0 value (written r number value)
-stored_byte r number value e h n =
-    read_after_lem r number value number _ value e (byte_stored r number value e h n) (in_map_4 number h) (store_laws.stored_back r.core number value h)
-    ((read_leaves _ number).others_none (λ z. omega arith) (λ z. omega arith))
-
--- what a read keeps does not depend on the settings
-settings_apart : (new : Settings) (core : Core) (number : ℕ) → (after_read (with_settings new core) number).kept ≡ (after_read core number).kept
-unfolding after_read
-settings_apart new core number =
-    by_test (eqb number 24) (λ t. rw t refl) (λ t. by_test (eqb number 26) (λ u. rw (t, u) refl) (λ u. rw (t, u) refl))
-
--- what a read tells and keeps
-abbrev Same : ReadAnswer → ReadAnswer → Type 0
-Same done without =
-    (done.refusal ≡ without.refusal) × (done.byte ≡ without.byte) × (done.receiver.core.kept ≡ without.receiver.core.kept)
-
 others_stay : (r : Receiver) (number value other : ℕ) → well_formed r ≡ true → number < 4 → (ByteWithoutSetting number value → ⊥) → other ≢ number
-    → Same (read_after r number value other) (read_answer r other)
+    → read_after r number value other ≡ read_answer r other
 others_stay r number value other e h n d =
     by_test (in_map other)
-    (λ i. rw (accepted r other e i, accepted (written r number value) other (stays r number value e) i)
-    (subst (λ (x : Receiver). Same (byte_answer 0 (register_byte x.core other) (read_from x other)) (byte_answer 0 (register_byte r.core other) (read_from r other)))
-    (sym (ap (λ (done : WriteAnswer). done.receiver) stored_is))
-    (refl, store_laws.others_stay r.core number value other d, settings_apart _ r.core other)))
-    (λ i. rw (read_laws.refused_by_5 r other e i, read_laws.refused_by_5 (written r number value) other (stays r number value e) i)
-    (refl, refl, ap (λ (done : WriteAnswer). done.receiver.core.kept) stored_is))
-  where
-    stored_is : write_answer r number value ≡ written_to r (with_settings (stored number value r.core.settings) r.core)
-    stored_is = byte_stored r number value e h n
+    (λ i.
+    read_after_lem r number value other _ (register_byte r.core other) e (byte_stored r number value e h n) i (store_laws.others_stay r.core number value other d)
+    ∙ sym (read_laws.accepted r other e i))
+    (λ i.
+    read_laws.refused_by_5 (write_answer r number value).receiver other (stays r number value e) i ∙ sym (read_laws.refused_by_5 r other e i))
 
--- a counter that was cleared: its registers are in the map, show 0, and keep nothing else than 0
-abbrev Zero : ℕ → Core → Type 0
-Zero other core = (in_map other ≡ true) × (register_byte core other ≡ 0) × (after_read core other ≡ core)
+single_zero : (other : ℕ) (core : Core) → core.errors.single ≡ 0 → SingleByte other → (in_map other ≡ true) × (register_byte core other ≡ 0)
+unfolding in_map one_of register_byte
+single_zero other core z (inl n) = (rw n refl, rw (n, z) refl)
+single_zero other core z (inr n) = (rw n refl, rw (n, z) refl)
 
-single_zero : (other : ℕ) (core : Core) → SingleByte other → Zero other (clear_single core)
-unfolding in_map one_of register_byte after_read
-single_zero other core (inl n) = (rw n refl, rw n refl, rw n refl)
-single_zero other core (inr n) = (rw n refl, rw n refl, rw n refl)
+bunch_zero : (other : ℕ) (core : Core) → core.counters.bunch ≡ 0 → BunchByte other → (in_map other ≡ true) × (register_byte core other ≡ 0)
+unfolding in_map one_of register_byte
+bunch_zero other core z (inl n) = (rw n refl, rw (n, z) refl)
+bunch_zero other core z (inr n) = (rw n refl, rw (n, z) refl)
 
-bunch_zero : (other : ℕ) (core : Core) → BunchByte other → Zero other (clear_bunch core)
-unfolding in_map one_of register_byte after_read
-bunch_zero other core (inl n) = (rw n refl, rw n refl, rw n refl)
-bunch_zero other core (inr n) = (rw n refl, rw n refl, rw n refl)
-
-event_zero : (other : ℕ) (core : Core) → EventByte other → Zero other (clear_event core)
-unfolding in_map one_of register_byte after_read
-event_zero other core (inl n) = (rw n refl, rw n refl, rw n refl)
-event_zero other core (inr (inl n)) = (rw n refl, rw n refl, rw n refl)
-event_zero other core (inr (inr n)) = (rw n refl, rw n refl, rw n refl)
-
--- a read after a write that cleared its counter
-zero_after : (r : Receiver) (number value other : ℕ) (core : Core) → well_formed r ≡ true → write_answer r number value ≡ written_to r core → Zero other core
-    → read_after r number value other ≡ byte_answer 0 0 (written r number value)
-zero_after r number value other core e w z = read_after_lem r number value other core 0 e w z.0 z.1 z.2
+event_zero : (other : ℕ) (core : Core) → core.counters.event ≡ 0 → EventByte other → (in_map other ≡ true) × (register_byte core other ≡ 0)
+unfolding in_map one_of register_byte
+event_zero other core z (inl n) = (rw n refl, rw (n, z) refl)
+event_zero other core z (inr (inl n)) = (rw n refl, rw (n, z) refl)
+event_zero other core z (inr (inr n)) = (rw n refl, rw (n, z) refl)
 
 pub read_back : ReadBack
-unfolding register_byte in_map one_of after_read
+unfolding register_byte in_map one_of
 read_back =
     record {
-      stored_byte = stored_byte;
+      stored_byte = λ r number value e h n.
+          read_after_lem r number value number _ value e (byte_stored r number value e h n) (in_map_4 number h) (store_laws.stored_back r.core number value h);
       others_stay = others_stay;
-      config_2 = λ r value e h. read_after_lem r 20 value 20 _ value e (write_laws.config_2_stored r value e h) refl refl refl;
-      config_3 = λ r value e h. read_after_lem r 21 value 21 _ value e (write_laws.config_3_stored r value e h) refl refl refl;
-      single = λ r number value other e n o. zero_after r number value other _ e (write_laws.single_cleared r number value e n) (single_zero other r.core o);
-      double = λ r value e. zero_after r 10 value 10 _ e (write_laws.double_cleared r value e) (refl, refl, refl);
-      upset = λ r value e. zero_after r 11 value 11 _ e (write_laws.upset_accepted r value e) (refl, refl, refl);
-      bunch = λ r number value other e n o. zero_after r number value other _ e (write_laws.bunch_cleared r number value e n) (bunch_zero other r.core o);
-      event = λ r number value other e n o. zero_after r number value other _ e (write_laws.event_cleared r number value e n) (event_zero other r.core o);
+      config_2 = λ r value e h. read_after_lem r 20 value 20 _ value e (write_laws.config_2_stored r value e h) refl refl;
+      config_3 = λ r value e h. read_after_lem r 21 value 21 _ value e (write_laws.config_3_stored r value e h) refl refl;
+      single = λ r number value other e n o.
+          let z = single_zero other (with_errors (errors 0 r.core.errors.double r.core.errors.status5) r.core) refl o in
+          read_after_lem r number value other _ 0 e (write_laws.single_cleared r number value e n) z.0 z.1;
+      double = λ r value e. read_after_lem r 10 value 10 _ 0 e (write_laws.double_cleared r value e) refl refl;
+      upset = λ r value e. read_after_lem r 11 value 11 _ 0 e (write_laws.upset_accepted r value e) refl refl;
+      bunch = λ r number value other e n o.
+          let z = bunch_zero other (with_counters (counters 0 r.core.counters.event) r.core) refl o in
+          read_after_lem r number value other _ 0 e (write_laws.bunch_cleared r number value e n) z.0 z.1;
+      event = λ r number value other e n o.
+          let z = event_zero other (with_counters (counters r.core.counters.bunch 0) r.core) refl o in
+          read_after_lem r number value other _ 0 e (write_laws.event_cleared r number value e n) z.0 z.1;
     }

@@ -1,11 +1,11 @@
--- Document 01, "Registers" and "Numbers of refusal", with document 02, Q-4 and Q-5: one register read, and one register write.
+-- Document 01, "Registers" and "Numbers of refusal", with document 02, Q-4: one register read, and one register write.
 use Rattle.std.specs.Prelude.{ℕ, cond, eqb}
 use Rattle.receiver_state.specs.declared.Core.{Core}
 use Rattle.receiver_state.specs.declared.Receiver.{Receiver}
 use Rattle.receiver_state.specs.State.{receiver}
 use Rattle.receiver_state.specs.WellFormed.{well_formed}
 use Rattle.register_map.specs.Map.{in_map, register_byte, read_only, without_setting, config_wrong}
-use Rattle.register_map.specs.Change.{after_write, after_read}
+use Rattle.register_map.specs.Change.{after_write}
 use Rattle.registers.specs.declared.ReadAnswer.{ReadAnswer}
 use Rattle.registers.specs.declared.WriteAnswer.{WriteAnswer}
 
@@ -15,24 +15,23 @@ use Rattle.registers.specs.declared.WriteAnswer.{WriteAnswer}
 unfoldable pub read_refusal : ℕ → ℕ
 read_refusal number = cond (in_map number) 0 5
 
--- document 02, Q-5: "Reading now hands a state back."
-abbrev pub byte_answer : ℕ → ℕ → Receiver → ReadAnswer
-byte_answer refusal byte after = record { refusal = refusal; byte = byte; receiver = after }
+abbrev pub byte_answer : ℕ → ℕ → ReadAnswer
+byte_answer refusal byte = record { refusal = refusal; byte = byte }
 
--- "A refused call returns its number with all other result fields 0 .., the state unchanged where one was given"
-abbrev pub refused_read : ℕ → Receiver → ReadAnswer
-refused_read refusal r = byte_answer refusal 0 r
-
--- the state that a read leaves: what is held of channel B stays
-abbrev pub read_from : Receiver → ℕ → Receiver
-read_from r number = receiver (after_read r.core number) r.held
+-- "A refused call returns its number with all other result fields 0"
+abbrev pub refused_read : ℕ → ReadAnswer
+refused_read refusal = byte_answer refusal 0
 
 -- refusal 2, "state not well formed", "first"
 unfoldable pub read_answer : Receiver → ℕ → ReadAnswer
 read_answer r number =
     cond (well_formed r)
-    (cond (eqb (read_refusal number) 0) (byte_answer 0 (register_byte r.core number) (read_from r number)) (refused_read (read_refusal number) r))
-    (refused_read 2 r)
+    (cond (eqb (read_refusal number) 0) (byte_answer 0 (register_byte r.core number)) (refused_read (read_refusal number)))
+    (refused_read 2)
+
+-- the core that a read leaves, refused or not: all of it stays
+abbrev pub after_read : Core → ℕ → Core
+after_read core number = core
 
 -- ---- write
 

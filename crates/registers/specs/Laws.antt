@@ -1,40 +1,22 @@
--- Document 01, "Registers", with document 02, Q-4 and Q-5: what holds of every register read and every register write. Proved in proofs/Laws.antt,
--- `ReadLaws` in proofs/Reading.antt, `WriteRefusals` in proofs/Refusals.antt.
-use Rattle.std.specs.Prelude.{ℕ, ◌+◌, ◌*◌, ◌%◌, ◌^◌, ◌<◌, ◌≡◌, ◌≢◌, ◌⊎◌, ◌↔◌, true, false}
+-- Document 01, "Registers", with document 02, Q-4: what holds of every register read and every register write. Proved in proofs/Laws.antt,
+-- `WriteRefusals` in proofs/Refusals.antt.
+use Rattle.std.specs.Prelude.{ℕ, ◌%◌, ◌^◌, ◌<◌, ◌≡◌, ◌≢◌, ◌⊎◌, ◌↔◌, true, false}
 use Rattle.receiver_state.specs.declared.Receiver.{Receiver}
-use Rattle.receiver_state.specs.State.{errors, counters, kept_bytes, with_settings, with_errors, with_counters, with_kept}
+use Rattle.receiver_state.specs.State.{errors, counters, with_settings, with_errors, with_counters}
 use Rattle.receiver_state.specs.WellFormed.{well_formed}
 use Rattle.register_map.specs.Map.{in_map, register_byte}
 use Rattle.register_map.specs.Change.{stored, with_configs}
-use Rattle.register_map.specs.Laws.{ByteWithoutSetting, LeftByRead}
+use Rattle.register_map.specs.Laws.{ByteWithoutSetting}
 use Rattle.registers.specs.declared.ReadAnswer.{ReadAnswer}
-use Rattle.registers.specs.Access.{byte_answer, refused_read, read_from, read_answer, written_to, refused_write, write_answer}
+use Rattle.registers.specs.Access.{byte_answer, refused_read, read_answer, written_to, refused_write, write_answer}
 
 -- ---- reads; what each register holds is in `ByteLaws` of the crate `register_map`
 
--- document 02, Q-5: a read, refused or not, leaves everything but the kept bytes; only 24 and 26 change those, each its own
-pub record ReadLeft (r : Receiver) (number : ℕ) (after : Receiver) : Type 0 where
-  pub held_same : after.held ≡ r.held
-  pub of_core : LeftByRead r.core number after.core
-
 pub record ReadLaws : Type 0 where
-  pub refused_by_2 : (r : Receiver) (number : ℕ) → well_formed r ≡ false → read_answer r number ≡ refused_read 2 r
-  pub refused_by_5 : (r : Receiver) (number : ℕ) → well_formed r ≡ true → in_map number ≡ false → read_answer r number ≡ refused_read 5 r
+  pub refused_by_2 : (r : Receiver) (number : ℕ) → well_formed r ≡ false → read_answer r number ≡ refused_read 2
+  pub refused_by_5 : (r : Receiver) (number : ℕ) → well_formed r ≡ true → in_map number ≡ false → read_answer r number ≡ refused_read 5
   pub accepted : (r : Receiver) (number : ℕ) → well_formed r ≡ true → in_map number ≡ true
-      → read_answer r number ≡ byte_answer 0 (register_byte r.core number) (read_from r number)
-  pub stays_well_formed : (r : Receiver) (number : ℕ) → well_formed r ≡ true → well_formed (read_answer r number).receiver ≡ true
-  pub leaves : (r : Receiver) (number : ℕ) → ReadLeft r number (read_answer r number).receiver
-  -- "low byte first": the bytes of a counter put together again, each read on the state that the read before left. Over lists of calls:
-  -- `KeptByteLaws` of the crate `guarantees`.
-  pub bunch_bytes : (r : Receiver) → well_formed r ≡ true
-      → let low = read_answer r 24 in
-      let upper = read_answer low.receiver 25 in
-      low.byte + upper.byte * 2 ^ 8 ≡ r.core.counters.bunch
-  pub event_bytes : (r : Receiver) → well_formed r ≡ true
-      → let low = read_answer r 26 in
-      let middle = read_answer low.receiver 27 in
-      let upper = read_answer middle.receiver 28 in
-      low.byte + middle.byte * 2 ^ 8 + upper.byte * 2 ^ 16 ≡ r.core.counters.event
+      → read_answer r number ≡ byte_answer 0 (register_byte r.core number)
 
 -- ---- writes
 
@@ -74,24 +56,16 @@ pub record WriteLaws : Type 0 where
       → write_answer r 20 value ≡ written_to r (with_settings (with_configs value r.core.settings.config3 r.core.settings) r.core)
   pub config_3_stored : (r : Receiver) (value : ℕ) → well_formed r ≡ true → value % 2 ^ 7 ≡ 0xA7 % 2 ^ 7
       → write_answer r 21 value ≡ written_to r (with_settings (with_configs r.core.settings.config2 value r.core.settings) r.core)
-  -- document 02, Q-5: "Clearing a counter by register .. clears its kept bytes."
   pub bunch_cleared : (r : Receiver) (number value : ℕ) → well_formed r ≡ true → BunchByte number
-      → let kept = kept_bytes 0 r.core.kept.event27 r.core.kept.event28 in
-      write_answer r number value ≡ written_to r (with_kept kept (with_counters (counters 0 r.core.counters.event) r.core))
+      → write_answer r number value ≡ written_to r (with_counters (counters 0 r.core.counters.event) r.core)
   pub event_cleared : (r : Receiver) (number value : ℕ) → well_formed r ≡ true → EventByte number
-      → let kept = kept_bytes r.core.kept.bunch25 0 0 in
-      write_answer r number value ≡ written_to r (with_kept kept (with_counters (counters r.core.counters.bunch 0) r.core))
+      → write_answer r number value ≡ written_to r (with_counters (counters r.core.counters.bunch 0) r.core)
   pub stays_well_formed : (r : Receiver) (number value : ℕ) → well_formed r ≡ true → well_formed (write_answer r number value).receiver ≡ true
   -- these three refused or not
   pub ids_stay : (r : Receiver) (number value : ℕ) → (write_answer r number value).receiver.core.ids ≡ r.core.ids
   -- "A later write to the control register doesn't alter a running sequence."
   pub sequence_stays : (r : Receiver) (number value : ℕ) → (write_answer r number value).receiver.core.sequence ≡ r.core.sequence
   pub held_stays : (r : Receiver) (number value : ℕ) → (write_answer r number value).receiver.held ≡ r.held
-  -- refused or not, a write to no register of a counter leaves its kept bytes
-  pub bunch_kept_stays : (r : Receiver) (number value : ℕ) → (BunchByte number → ⊥)
-      → (write_answer r number value).receiver.core.kept.bunch25 ≡ r.core.kept.bunch25
-  pub event_kept_stays : (r : Receiver) (number value : ℕ) → (EventByte number → ⊥) → let kept = (write_answer r number value).receiver.core.kept in
-      (kept.event27 ≡ r.core.kept.event27) × (kept.event28 ≡ r.core.kept.event28)
 
 -- ---- which write is refused by which number
 
@@ -109,32 +83,24 @@ pub record WriteRefusals : Type 0 where
 
 -- ---- what a read gives after a write
 
--- the state after a write of `value` to `number`, and a read of `other` on it
-abbrev pub written : Receiver → ℕ → ℕ → Receiver
-written r number value = (write_answer r number value).receiver
-
+-- a read of `other` after a write of `value` to `number`
 abbrev pub read_after : Receiver → ℕ → ℕ → ℕ → ReadAnswer
-read_after r number value other = read_answer (written r number value) other
+read_after r number value other = read_answer (write_answer r number value).receiver other
 
--- each answer as a whole: but for `others_stay` the read leaves the state as the write did, also where it keeps bytes, as these are 0 already
 pub record ReadBack : Type 0 where
   pub stored_byte : (r : Receiver) (number value : ℕ) → well_formed r ≡ true → number < 4 → (ByteWithoutSetting number value → ⊥)
-      → read_after r number value number ≡ byte_answer 0 value (written r number value)
-  -- of the registers, only that one: a read of another answers and keeps what it would have without the write
+      → read_after r number value number ≡ byte_answer 0 value
+  -- of the registers, only that one
   pub others_stay : (r : Receiver) (number value other : ℕ) → well_formed r ≡ true → number < 4 → (ByteWithoutSetting number value → ⊥) → other ≢ number
-      → let done = read_after r number value other in
-      let without = read_answer r other in
-      (done.refusal ≡ without.refusal) × (done.byte ≡ without.byte) × (done.receiver.core.kept ≡ without.receiver.core.kept)
-  pub config_2 : (r : Receiver) (value : ℕ) → well_formed r ≡ true → value % 2 ^ 7 ≡ 0x85 % 2 ^ 7
-      → read_after r 20 value 20 ≡ byte_answer 0 value (written r 20 value)
-  pub config_3 : (r : Receiver) (value : ℕ) → well_formed r ≡ true → value % 2 ^ 7 ≡ 0xA7 % 2 ^ 7
-      → read_after r 21 value 21 ≡ byte_answer 0 value (written r 21 value)
-  -- a write to one byte of a counter clears every byte of it, the kept ones too
+      → read_after r number value other ≡ read_answer r other
+  pub config_2 : (r : Receiver) (value : ℕ) → well_formed r ≡ true → value % 2 ^ 7 ≡ 0x85 % 2 ^ 7 → read_after r 20 value 20 ≡ byte_answer 0 value
+  pub config_3 : (r : Receiver) (value : ℕ) → well_formed r ≡ true → value % 2 ^ 7 ≡ 0xA7 % 2 ^ 7 → read_after r 21 value 21 ≡ byte_answer 0 value
+  -- a write to one byte of a counter clears every byte of it
   pub single : (r : Receiver) (number value other : ℕ) → well_formed r ≡ true → SingleByte number → SingleByte other
-      → read_after r number value other ≡ byte_answer 0 0 (written r number value)
-  pub double : (r : Receiver) (value : ℕ) → well_formed r ≡ true → read_after r 10 value 10 ≡ byte_answer 0 0 (written r 10 value)
-  pub upset : (r : Receiver) (value : ℕ) → well_formed r ≡ true → read_after r 11 value 11 ≡ byte_answer 0 0 (written r 11 value)
+      → read_after r number value other ≡ byte_answer 0 0
+  pub double : (r : Receiver) (value : ℕ) → well_formed r ≡ true → read_after r 10 value 10 ≡ byte_answer 0 0
+  pub upset : (r : Receiver) (value : ℕ) → well_formed r ≡ true → read_after r 11 value 11 ≡ byte_answer 0 0
   pub bunch : (r : Receiver) (number value other : ℕ) → well_formed r ≡ true → BunchByte number → BunchByte other
-      → read_after r number value other ≡ byte_answer 0 0 (written r number value)
+      → read_after r number value other ≡ byte_answer 0 0
   pub event : (r : Receiver) (number value other : ℕ) → well_formed r ≡ true → EventByte number → EventByte other
-      → read_after r number value other ≡ byte_answer 0 0 (written r number value)
+      → read_after r number value other ≡ byte_answer 0 0

@@ -1,22 +1,18 @@
-// Document 01, "Registers", with document 02, Q-4 and Q-5: register reads and register writes between
-// clocks: checks and refusals. What a register holds, and what a write and a read do, is in
-// `register_map`.
+// Document 01, "Registers", with document 02, Q-4: register reads and register writes between clocks:
+// checks and refusals. What a register holds, and what a write does, is in `register_map`.
 //
 // The state goes by value, in and out: see `receiver_state`.
 ghost use Rattle.std.specs.Prelude.{◌≡◌};
 ghost use Rattle.registers.specs.Access.{read_refusal, refused_read, read_answer, write_refusal, refused_write, write_answer};
 
 use receiver_state::{Receiver, well_formed};
-use register_map::{
-    config_wrong, in_map, keep_bytes, read_only, register_byte, without_setting, write_byte,
-};
+use register_map::{config_wrong, in_map, read_only, register_byte, without_setting, write_byte};
 
 #[repr(C)]
 #[derive(Drop)]
 pub struct ReadAnswer {
     pub refusal: u8,
     pub byte: u8,
-    pub receiver: Receiver,
 }
 
 #[repr(C)]
@@ -53,15 +49,11 @@ fn write_refusal(number: u8, value: u8) -> u8
     0
 }
 
-// A refused read: the byte is 0, and the state as it came.
-fn refuse_read(refusal: u8, receiver: Receiver) -> ReadAnswer
-    ensures { result ≡ refused_read refusal receiver }
+// A refused read: the byte is 0.
+fn refuse_read(refusal: u8) -> ReadAnswer
+    ensures { result ≡ refused_read refusal }
 {
-    ReadAnswer {
-        refusal,
-        byte: 0,
-        receiver,
-    }
+    ReadAnswer { refusal, byte: 0 }
 }
 
 // A refused write: the state as it came.
@@ -71,26 +63,19 @@ fn refuse_write(refusal: u8, receiver: Receiver) -> WriteAnswer
     WriteAnswer { refusal, receiver }
 }
 
-// The byte that a register holds, and the state after the read.
+// The byte that a register holds.
 pub fn read(receiver: Receiver, number: u8) -> ReadAnswer
     ensures { result ≡ read_answer receiver number }
 {
     if !well_formed(receiver) {
-        return refuse_read(2, receiver);
+        return refuse_read(2);
     }
     let refusal = read_refusal(number);
     if refusal != 0 {
-        return refuse_read(refusal, receiver);
+        return refuse_read(refusal);
     }
     let byte = register_byte(receiver.core, number);
-    let core = keep_bytes(receiver.core, number);
-    let mut next = receiver;
-    next.core = core;
-    ReadAnswer {
-        refusal: 0,
-        byte,
-        receiver: next,
-    }
+    ReadAnswer { refusal: 0, byte }
 }
 
 // The state after a byte was written to a register.

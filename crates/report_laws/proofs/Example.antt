@@ -19,7 +19,7 @@ use Rattle.frame.specs.Decode.{judged, finished_answer}
 use Rattle.receiver_state.specs.declared.Core.{Core}
 use Rattle.receiver_state.specs.declared.Held.{Held}
 use Rattle.receiver_state.specs.declared.Receiver.{Receiver}
-use Rattle.receiver_state.specs.State.{ids, errors, counters, wanting_ones, nothing_held, receiver, with_settings, with_errors, with_counters, fresh_core}
+use Rattle.receiver_state.specs.State.{ids, errors, counters, no_sequence, wanting_ones, nothing_held, receiver}
 use Rattle.fine_delay.specs.Delay.{has_setting}
 use Rattle.receiver_state.specs.WellFormed.{ids_ok, settings_ok, counters_ok, sequence_ok, core_ok, bits_ok, wanted_ok, held_ok, well_formed}
 use Rattle.receiver_state.specs.declared.Outputs.{Outputs}
@@ -112,9 +112,13 @@ frame_line {core} {lines} {characters} {kind} {number} {held} {left} {shown} {af
 -- register 2, single errors, double errors, status bit 5 and bunch count; all else is as in the fresh state
 abbrev having : ℕ → ℕ → ℕ → ℕ → ℕ → Core
 having coarse single double status5 bunch =
-    with_counters (counters bunch 0)
-    (with_errors (errors single double status5)
-    (with_settings (record { fine1 = 0; fine2 = 0; coarse = coarse; control = 0x93; config2 = 0x85; config3 = 0xA7 }) (fresh_core (ids 5 5))))
+    record {
+      ids = ids 5 5;
+      settings = record { fine1 = 0; fine2 = 0; coarse = coarse; control = 0x93; config2 = 0x85; config3 = 0xA7 };
+      errors = errors single double status5;
+      counters = counters bunch 0;
+      sequence = no_sequence;
+    }
 
 -- verdict, corrected flag, place, word
 abbrev showing : ℕ → ℕ → ℕ → ℕ → Outputs

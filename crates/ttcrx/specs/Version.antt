@@ -3,4 +3,4 @@ use Rattle.std.specs.Prelude.{ℕ}
 
 -- raised by each change of a struct or of a meaning
 abbrev pub interface_version : ℕ
-interface_version = 5
+interface_version = 4

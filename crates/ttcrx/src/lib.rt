@@ -1,35 +1,133 @@
-// The C interface of the receiver: version, states, clocks, accesses, whole frames. Each exported
-// function has its full contract; include/ttcrx.h declares them. An answer is a struct or a number, by
-// value.
+// The C interface: one exported function for each entry point, with its full contract.
+// include/ttcrx.h declares them. An answer is a struct or a number, by value.
 ghost use Rattle.std.specs.Prelude.{◌≡◌, cond};
+ghost use Rattle.hamming.specs.Columns.{short_columns, long_columns};
 ghost use Rattle.frame.specs.declared.Kind.TheVariants.{Short, Long};
 ghost use Rattle.frame.specs.Columns.{columns_of};
-ghost use Rattle.receiver_with_columns.specs.WithColumns.{clock_with_columns, receive_with_columns, receive_by_format_with_columns};
+ghost use Rattle.frame.specs.Encode.{encode_short, encode_long};
+ghost use Rattle.frame.specs.Decode.{decode_frame};
+ghost use Rattle.lent_columns.specs.Check.{check_columns};
+ghost use Rattle.lent_columns.specs.Frames.{encode_short_with_columns, encode_long_with_columns, decode_with_columns};
+ghost use Rattle.receiver_with_columns.specs.WithColumns.{clock_with_columns, receive_with_columns, receive_by_format_with_columns, block_done_with, run_block_with_columns};
+ghost use Rattle.stored_line.specs.Read.{read_line, line_answer};
+ghost use Rattle.stored_line.specs.Write.{write_done, write_line};
+ghost use Rattle.fine_delay.specs.Delay.{setting_to_byte, byte_to_setting};
 ghost use Rattle.receiver_state.specs.State.{fresh_answer};
 ghost use Rattle.receiver_state.specs.WellFormed.{well_formed};
 ghost use Rattle.receiver.specs.Clock.{clock_answer};
 ghost use Rattle.whole_frame.specs.WholeFrame.{receive_answer};
 ghost use Rattle.whole_frame.specs.ByFormat.{receive_by_format};
+ghost use Rattle.trace.specs.Block.{block_done, run_block};
+ghost use Rattle.trace.specs.Filled.{filled_length};
 ghost use Rattle.registers.specs.Access.{read_answer, write_answer};
+ghost use Rattle.line_report.specs.Report.{start_report, report_done, report_input, report_end};
 ghost use Rattle.ttcrx.specs.Version.{interface_version};
 
-use frame::Kind;
+use fine_delay::{DelayByte, DelaySetting, delay_byte, delay_setting};
+use frame::{Answer, Encoded, Kind, decode_long, decode_short, encode_long, encode_short};
+use lent_columns::{
+    ColumnsAnswer, DecodedWithIndex, EncodedWithIndex, check_columns, decode_long_with_columns,
+    decode_short_with_columns, encode_long_with_columns, encode_short_with_columns,
+};
+use line_report::{Report, Reported, report_end, report_input, start_report};
 use receiver::{ClockAnswer, clock};
 use receiver_state::{FreshAnswer, Receiver, fresh, well_formed};
 use receiver_with_columns::{
     ClockWithIndex, clock_with_columns, receive_by_format_with_columns, receive_frame_with_columns,
+    run_block_with_columns,
 };
 use registers::{ReadAnswer, WriteAnswer, read, write};
+use stored_line::{LineAnswer, Written, line_answer, read_line, write_line};
+use trace::{filled_length, run_block};
 use whole_frame::{receive_by_format, receive_frame};
 
 // TTCRX_VERSION of include/ttcrx.h.
-pub const VERSION: u32 = 5;
+pub const VERSION: u32 = 4;
+
+// What a block answers a caller who lends the receiver.
+#[repr(C)]
+#[derive(Drop)]
+pub struct BlockOutcome {
+    pub refusal: u8,
+    pub records: usize,
+}
+
+// The same for a caller who also lends columns.
+#[repr(C)]
+#[derive(Drop)]
+pub struct OutcomeWithIndex {
+    pub answer: BlockOutcome,
+    pub index: u8,
+}
 
 #[unsafe(no_mangle)]
 pub extern "C" fn ttcrx_version() -> u32
     ensures { result ≡ interface_version }
 {
     VERSION
+}
+
+#[unsafe(no_mangle)]
+pub extern "C" fn ttcrx_encode_short(data: u8) -> Encoded
+    ensures { result ≡ encode_short short_columns «data» }
+{
+    encode_short(data)
+}
+
+#[unsafe(no_mangle)]
+pub extern "C" fn ttcrx_encode_long(address: u16, e: u8, sub: u8, data: u8) -> Encoded
+    ensures { result ≡ encode_long long_columns address e sub «data» }
+{
+    encode_long(address, e, sub, data)
+}
+
+#[unsafe(no_mangle)]
+pub extern "C" fn ttcrx_decode_short(number: u64) -> Answer
+    ensures { result ≡ decode_frame short_columns Short number }
+{
+    decode_short(number)
+}
+
+#[unsafe(no_mangle)]
+pub extern "C" fn ttcrx_decode_long(number: u64) -> Answer
+    ensures { result ≡ decode_frame long_columns Long number }
+{
+    decode_long(number)
+}
+
+#[unsafe(no_mangle)]
+pub extern "C" fn ttcrx_read_line(characters: &[u8]) -> LineAnswer
+    ensures { result ≡ line_answer (read_line characters.now) }
+{
+    line_answer(read_line(characters))
+}
+
+#[unsafe(no_mangle)]
+pub extern "C" fn ttcrx_write_short(number: u64, buffer: &mut [u8]) -> Written
+    ensures { write_done result buffer.new ≡ write_line Short number buffer.old }
+{
+    write_line(Kind::Short, number, buffer)
+}
+
+#[unsafe(no_mangle)]
+pub extern "C" fn ttcrx_write_long(number: u64, buffer: &mut [u8]) -> Written
+    ensures { write_done result buffer.new ≡ write_line Long number buffer.old }
+{
+    write_line(Kind::Long, number, buffer)
+}
+
+#[unsafe(no_mangle)]
+pub extern "C" fn ttcrx_delay_byte(setting: u8) -> DelayByte
+    ensures { result ≡ setting_to_byte setting }
+{
+    delay_byte(setting)
+}
+
+#[unsafe(no_mangle)]
+pub extern "C" fn ttcrx_delay_setting(byte: u8) -> DelaySetting
+    ensures { result ≡ byte_to_setting byte }
+{
+    delay_setting(byte)
 }
 
 #[unsafe(no_mangle)]
@@ -91,6 +189,68 @@ pub extern "C" fn ttcrx_receive_long(receiver: Receiver, number: u64) -> ClockAn
     receive_frame(receiver, Kind::Long, number)
 }
 
+// Two functions take the receiver by reference, this one and the one with columns: the board service
+// keeps its receiver for weeks. The copy is taken once a block, and stored where the block was accepted:
+// a refused one writes no byte of it.
+#[unsafe(no_mangle)]
+pub extern "C" fn ttcrx_run_block(
+    receiver: &mut Receiver,
+    block: &[u8],
+    buffer: &mut [u32],
+) -> BlockOutcome
+    ensures { block_done (record { refusal = result.refusal; receiver = receiver.new; records = result.records }) buffer.new ≡ run_block columns_of receiver.old block.now buffer.old }
+{
+    let answer = run_block(*receiver, block, buffer);
+    if answer.refusal == 0 {
+        *receiver = answer.receiver;
+    }
+    BlockOutcome {
+        refusal: answer.refusal,
+        records: answer.records,
+    }
+}
+
+#[unsafe(no_mangle)]
+pub extern "C" fn ttcrx_check_columns(columns: &[u8]) -> ColumnsAnswer
+    ensures { result ≡ check_columns columns.now }
+{
+    check_columns(columns)
+}
+
+#[unsafe(no_mangle)]
+pub extern "C" fn ttcrx_encode_short_with_columns(columns: &[u8], data: u8) -> EncodedWithIndex
+    ensures { result ≡ encode_short_with_columns columns.now «data» }
+{
+    encode_short_with_columns(columns, data)
+}
+
+#[unsafe(no_mangle)]
+pub extern "C" fn ttcrx_encode_long_with_columns(
+    columns: &[u8],
+    address: u16,
+    e: u8,
+    sub: u8,
+    data: u8,
+) -> EncodedWithIndex
+    ensures { result ≡ encode_long_with_columns columns.now address e sub «data» }
+{
+    encode_long_with_columns(columns, address, e, sub, data)
+}
+
+#[unsafe(no_mangle)]
+pub extern "C" fn ttcrx_decode_short_with_columns(columns: &[u8], number: u64) -> DecodedWithIndex
+    ensures { result ≡ decode_with_columns columns.now Short number }
+{
+    decode_short_with_columns(columns, number)
+}
+
+#[unsafe(no_mangle)]
+pub extern "C" fn ttcrx_decode_long_with_columns(columns: &[u8], number: u64) -> DecodedWithIndex
+    ensures { result ≡ decode_with_columns columns.now Long number }
+{
+    decode_long_with_columns(columns, number)
+}
+
 #[unsafe(no_mangle)]
 pub extern "C" fn ttcrx_clock_with_columns(
     receiver: Receiver,
@@ -135,4 +295,57 @@ pub extern "C" fn ttcrx_receive_long_with_columns(
     ensures { result ≡ receive_with_columns receiver columns.now Long number }
 {
     receive_frame_with_columns(receiver, columns, Kind::Long, number)
+}
+
+// As `ttcrx_run_block`, with columns.
+#[unsafe(no_mangle)]
+pub extern "C" fn ttcrx_run_block_with_columns(
+    receiver: &mut Receiver,
+    columns: &[u8],
+    block: &[u8],
+    buffer: &mut [u32],
+) -> OutcomeWithIndex
+    ensures { block_done_with (record { answer = record { refusal = result.answer.refusal; receiver = receiver.new; records = result.answer.records }; index = result.index }) buffer.new ≡ run_block_with_columns receiver.old columns.now block.now buffer.old }
+{
+    let done = run_block_with_columns(*receiver, columns, block, buffer);
+    if done.answer.refusal == 0 {
+        *receiver = done.answer.receiver;
+    }
+    let answer = BlockOutcome {
+        refusal: done.answer.refusal,
+        records: done.answer.records,
+    };
+    OutcomeWithIndex {
+        answer,
+        index: done.index,
+    }
+}
+
+// A returned part can't be exported: a caller in C gets its length.
+#[unsafe(no_mangle)]
+pub extern "C" fn ttcrx_filled_length(room: usize, records: usize) -> usize
+    ensures { result ≡ filled_length room records }
+{
+    filled_length(room, records)
+}
+
+#[unsafe(no_mangle)]
+pub extern "C" fn ttcrx_report_start() -> Report
+    ensures { result ≡ start_report }
+{
+    start_report()
+}
+
+#[unsafe(no_mangle)]
+pub extern "C" fn ttcrx_report_input(report: Report, input: &[u8], buffer: &mut [u8]) -> Reported
+    ensures { report_done result buffer.new ≡ report_input columns_of report input.now buffer.old }
+{
+    report_input(report, input, buffer)
+}
+
+#[unsafe(no_mangle)]
+pub extern "C" fn ttcrx_report_end(report: Report, buffer: &mut [u8]) -> Reported
+    ensures { report_done result buffer.new ≡ report_end columns_of report buffer.old }
+{
+    report_end(report, buffer)
 }

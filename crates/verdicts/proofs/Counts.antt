@@ -17,7 +17,7 @@ use Rattle.receiver_state.specs.declared.Ids.{Ids}
 use Rattle.receiver_state.specs.declared.Errors.{Errors}
 use Rattle.receiver_state.specs.declared.Core.{Core}
 use Rattle.receiver_state.specs.declared.Clocked.{Clocked}
-use Rattle.receiver_state.specs.State.{with_counters, with_kept, fresh_core}
+use Rattle.receiver_state.specs.State.{with_counters, fresh_core}
 use Rattle.register_map.specs.Change.{store_byte}
 use Rattle.verdicts.specs.declared.LongRow.{LongRow}
 use Rattle.verdicts.specs.declared.LongRow.TheVariants.{Foreign, Outside, WithoutSetting, Store, Reset, Other}
@@ -104,5 +104,5 @@ finished_moves kind judged idle =
     (λ v word d l. dropped_moves v word idle d)
     (λ told. cleared_changes (λ (core : Core). Moves idle.core.errors (shown (good_told Short told) (row 1 core) idle.outputs)) (told.word % 2 ^ 8) _
     (other_moves 1 told Short (count_errors (good_told Short told) idle.core) idle refl (λ e. omega arith) (λ e. omega arith) refl)
-    (λ new kept. other_moves 1 told Short (with_kept kept (with_counters new (count_errors (good_told Short told) idle.core))) idle refl (λ e. omega arith) (λ e. omega arith) refl))
+    (λ new. other_moves 1 told Short (with_counters new (count_errors (good_told Short told) idle.core)) idle refl (λ e. omega arith) (λ e. omega arith) refl))
     (λ told chosen e. long_moves told idle (fields_of Long told.word) chosen)

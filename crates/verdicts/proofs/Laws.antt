@@ -16,7 +16,7 @@ use Rattle.verdicts.proofs.Keep.{finished_facts}
 use Rattle.verdicts.proofs.Rows.{row_facts}
 use Rattle.verdicts.proofs.Counts.{finished_moves}
 use Rattle.verdicts.proofs.Stored.{finished_settings}
-use Rattle.verdicts.proofs.Cleared.{finished_counters, finished_kept}
+use Rattle.verdicts.proofs.Cleared.{finished_counters}
 use Rattle.verdicts.proofs.Verdicts.{finished_answer_lem, seven_exactly, shows_frame}
 use Rattle.verdicts.proofs.Executed.{executed_law}
 use Rattle.verdicts.proofs.Named.{bit_named}
@@ -47,7 +47,6 @@ verdict_theorem columns good =
       errors_move = λ kind number idle. finished_moves kind (judged (columns kind) kind number) idle;
       settings_move = λ kind number idle. finished_settings kind (judged (columns kind) kind number) idle;
       counters_move = λ kind number idle. finished_counters kind (judged (columns kind) kind number) idle;
-      kept_move = λ kind number idle. finished_kept kind (judged (columns kind) kind number) idle;
       sequence_stays = λ kind number idle. (row_facts kind (judged (columns kind) kind number) idle.core).sequence_stays;
       ids_stay = λ kind number idle. (row_facts kind (judged (columns kind) kind number) idle.core).ids_stay;
       reset_is_fresh = λ kind number idle. (row_facts kind (judged (columns kind) kind number) idle.core).reset;

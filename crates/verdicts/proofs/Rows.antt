@@ -18,9 +18,8 @@ use Rattle.frame.specs.Encode.{fields_of}
 use Rattle.frame.specs.Place.{place_in}
 use Rattle.frame.specs.Decode.{bare_answer, good_answer, answer_to}
 use Rattle.receiver_state.specs.declared.Counters.{Counters}
-use Rattle.receiver_state.specs.declared.Kept.{Kept}
 use Rattle.receiver_state.specs.declared.Core.{Core}
-use Rattle.receiver_state.specs.State.{with_counters, with_kept, fresh_core}
+use Rattle.receiver_state.specs.State.{with_counters, fresh_core}
 use Rattle.register_map.specs.Map.{without_setting}
 use Rattle.register_map.proofs.Laws.{without_setting_law}
 use Rattle.verdicts.specs.declared.LongRow.{LongRow}
@@ -116,14 +115,13 @@ by_row P kind (FixedZero word) core lost short long = lost 9 word refl (omega ar
 by_row P Short (Good word flag wrong) core lost short long = short (record { flag = cond flag 1 0; place = place_in Short wrong; word = word })
 by_row P Long (Good word flag wrong) core lost short long = long (record { flag = cond flag 1 0; place = place_in Long wrong; word = word }) _ refl
 
--- what holds of a core, and with any counters and kept bytes changed, holds after a broadcast
-pub cleared_changes : (P : Core → Type 0) (byte : ℕ) (core : Core) → P core → ((new : Counters) (kept : Kept) → P (with_kept kept (with_counters new core)))
-    → P (cleared_by byte core)
+-- what holds of a core, and with any counters changed, holds after a broadcast
+pub cleared_changes : (P : Core → Type 0) (byte : ℕ) (core : Core) → P core → ((new : Counters) → P (with_counters new core)) → P (cleared_by byte core)
 unfolding cleared_by
 cleared_changes P byte core same any =
     by_test (eqb (byte % 2) 1)
-    (λ t. by_test (eqb (byte / 2 % 2) 1) (λ u. rw (t, u) (any _ _)) (λ u. rw (t, u) (any _ _)))
-    (λ t. by_test (eqb (byte / 2 % 2) 1) (λ u. rw (t, u) (any _ _)) (λ u. rw (t, u) same))
+    (λ t. by_test (eqb (byte / 2 % 2) 1) (λ u. rw (t, u) (any _)) (λ u. rw (t, u) (any _)))
+    (λ t. by_test (eqb (byte / 2 % 2) 1) (λ u. rw (t, u) (any _)) (λ u. rw (t, u) same))
 
 -- ---- what every row leaves
 
@@ -157,5 +155,5 @@ row_facts kind judged core =
     (λ v word d l. other core _ v (not_dropped v 0 d refl) (not_dropped v 3 d refl) l refl refl)
     (λ told. cleared_changes (λ (new : Core). RowFacts core (row 1 new)) (told.word % 2 ^ 8) _
     (other core _ 1 (λ e. omega arith) (λ e. omega arith) (omega arith) refl refl)
-    (λ new kept. other core _ 1 (λ e. omega arith) (λ e. omega arith) (omega arith) refl refl))
+    (λ new. other core _ 1 (λ e. omega arith) (λ e. omega arith) (omega arith) refl refl))
     (λ told chosen e. long_facts core _ (fields_of Long told.word) chosen refl refl)

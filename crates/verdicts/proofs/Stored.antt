@@ -14,7 +14,7 @@ use Rattle.frame.specs.Decode.{bare_answer, answer_to}
 use Rattle.receiver_state.specs.declared.Settings.{Settings}
 use Rattle.receiver_state.specs.declared.Core.{Core}
 use Rattle.receiver_state.specs.declared.Clocked.{Clocked}
-use Rattle.receiver_state.specs.State.{with_counters, with_kept, fresh_core}
+use Rattle.receiver_state.specs.State.{with_counters, fresh_core}
 use Rattle.register_map.specs.Change.{stored, store_byte}
 use Rattle.verdicts.specs.declared.LongRow.{LongRow}
 use Rattle.verdicts.specs.declared.LongRow.TheVariants.{Foreign, Outside, WithoutSetting, Store, Reset, Other}
@@ -99,5 +99,5 @@ finished_settings kind judged idle =
     (λ v word d l. kept_settings v (bare_answer 0 v word) (double_up (count_errors (bare_answer 0 v word) idle.core)) idle (not_dropped v 2 d refl) refl)
     (λ told. cleared_changes (λ (core : Core). Moves idle.core.settings (shown (good_told Short told) (row 1 core) idle.outputs)) (told.word % 2 ^ 8) _
     (kept_settings 1 (good_told Short told) (count_errors (good_told Short told) idle.core) idle (λ e. omega arith) refl)
-    (λ new kept. kept_settings 1 (good_told Short told) (with_kept kept (with_counters new (count_errors (good_told Short told) idle.core))) idle (λ e. omega arith) refl))
+    (λ new. kept_settings 1 (good_told Short told) (with_counters new (count_errors (good_told Short told) idle.core)) idle (λ e. omega arith) refl))
     (λ told chosen e. long_settings told idle.core.ids.id idle chosen (rw e at (why (fields_of Long told.word) idle.core.ids.id)))

@@ -1,4 +1,4 @@
--- Document 01, "Fate of a finished frame", with document 02, Q-4, Q-5 and Q-8, as facts of what a clock shows and leaves: the words of Laws.antt, here and in
+-- Document 01, "Fate of a finished frame", with document 02, Q-4 and Q-8, as facts of what a clock shows and leaves: the words of Laws.antt, here and in
 -- the crate `receiver`.
 use Rattle.std.specs.Prelude.{ℕ, ◌+◌, ◌/◌, ◌%◌, ◌^◌, ◌<◌, ◌≤◌, ◌≡◌, ◌≢◌, ◌⊎◌, ◌↔◌, true, false, cond, List, eqb}
 use Rattle.hamming.specs.declared.WrongBit.{WrongBit}
@@ -14,7 +14,6 @@ use Rattle.frame.specs.Frames.{InRange, flip_protected}
 use Rattle.receiver_state.specs.declared.Settings.{Settings}
 use Rattle.receiver_state.specs.declared.Errors.{Errors}
 use Rattle.receiver_state.specs.declared.Counters.{Counters}
-use Rattle.receiver_state.specs.declared.Kept.{Kept}
 use Rattle.receiver_state.specs.declared.Outputs.{Outputs}
 use Rattle.register_map.specs.Laws.{ByteWithoutSetting}
 use Rattle.verdicts.specs.Table.{dropped}
@@ -120,15 +119,6 @@ pub record CountersMove (before : Counters) (shown : Outputs) (after : Counters)
   pub bunch_not_cleared : shown.verdict ≡ 1 → shown.word % 2 ≡ 0 → after.bunch ≡ before.bunch
   pub event_cleared : shown.verdict ≡ 1 → shown.word / 2 % 2 ≡ 1 → after.event ≡ 0
   pub event_not_cleared : shown.verdict ≡ 1 → shown.word / 2 % 2 ≡ 0 → after.event ≡ before.event
-
--- document 02, Q-5: "Clearing a counter by .. broadcast .. clears its kept bytes": those of the counters that a broadcast clears, and of no other; RESET
--- apart (`reset_is_fresh` of Laws.antt)
-pub record KeptMove (before : Kept) (shown : Outputs) (after : Kept) : Type 0 where
-  pub kept_stay : shown.verdict ≢ 1 → shown.verdict ≢ 3 → after ≡ before
-  pub bunch_cleared : shown.verdict ≡ 1 → shown.word % 2 ≡ 1 → after.bunch25 ≡ 0
-  pub bunch_not_cleared : shown.verdict ≡ 1 → shown.word % 2 ≡ 0 → after.bunch25 ≡ before.bunch25
-  pub event_cleared : shown.verdict ≡ 1 → shown.word / 2 % 2 ≡ 1 → (after.event27 ≡ 0) × (after.event28 ≡ 0)
-  pub event_not_cleared : shown.verdict ≡ 1 → shown.word / 2 % 2 ≡ 0 → (after.event27 ≡ before.event27) × (after.event28 ≡ before.event28)
 
 -- ---- executed frames
 

@@ -1,4 +1,4 @@
--- Document 01, "Fate of a finished frame", with document 02, Q-4, Q-5 and Q-8: what holds of every finished frame, over the columns of each kind.
+-- Document 01, "Fate of a finished frame", with document 02, Q-4 and Q-8: what holds of every finished frame, over the columns of each kind.
 -- Proved in proofs/Laws.antt.
 use Rattle.std.specs.Prelude.{ℕ, ◌≤◌, ◌≡◌, ◌≢◌, ◌↔◌, true, List}
 use Rattle.frame.specs.declared.Kind.{Kind}
@@ -11,7 +11,7 @@ use Rattle.receiver_state.specs.Shown.{Stands}
 use Rattle.receiver_state.specs.WellFormed.{CoreFacts}
 use Rattle.verdicts.specs.Table.{executed, largest_verdict}
 use Rattle.verdicts.specs.Finished.{finished_by}
-use Rattle.verdicts.specs.FrameLaws.{ShowsFrame, BitNamed, ErrorsMove, SettingsMove, CountersMove, KeptMove, ExecutedFrame}
+use Rattle.verdicts.specs.FrameLaws.{ShowsFrame, BitNamed, ErrorsMove, SettingsMove, CountersMove, ExecutedFrame}
 
 pub record VerdictLaws (columns : Kind → List ℕ) : Type 0 where
   pub stays_well_formed : (kind : Kind) (number : ℕ) (idle : Clocked) → CoreFacts idle.core → CoreFacts (finished_by columns kind number idle).core
@@ -32,8 +32,6 @@ pub record VerdictLaws (columns : Kind → List ℕ) : Type 0 where
       SettingsMove idle.core.settings done.outputs done.core.settings
   pub counters_move : (kind : Kind) (number : ℕ) (idle : Clocked) → let done = finished_by columns kind number idle in
       CountersMove idle.core.counters done.outputs done.core.counters
-  pub kept_move : (kind : Kind) (number : ℕ) (idle : Clocked) → let done = finished_by columns kind number idle in
-      KeptMove idle.core.kept done.outputs done.core.kept
   pub sequence_stays : (kind : Kind) (number : ℕ) (idle : Clocked) → (finished_by columns kind number idle).outputs.verdict ≢ 3
       → (finished_by columns kind number idle).core.sequence ≡ idle.core.sequence
   pub ids_stay : (kind : Kind) (number : ℕ) (idle : Clocked) → (finished_by columns kind number idle).core.ids ≡ idle.core.ids

@@ -1,4 +1,4 @@
--- Document 01, "Fate of a finished frame", with document 02, Q-4, Q-5 and Q-8: the table of verdicts. A row is the verdict, and the core after the effect.
+-- Document 01, "Fate of a finished frame", with document 02, Q-4 and Q-8: the table of verdicts. A row is the verdict, and the core after the effect.
 -- `LongRow` and `Row` are an enum and a struct of src/lib.rt.
 use Rattle.std.specs.Prelude.{ℕ, ◌+◌, ◌/◌, ◌%◌, Bool, cond, not, ◌&&◌, [], ◌∷◌, eqb, ltb}
 use Rattle.laws.specs.OneOf.{one_of}
@@ -38,7 +38,7 @@ up_to top n = cond (ltb n top) (n + 1) n
 unfoldable pub double_up : Core → Core
 double_up core = with_errors (errors core.errors.single (up_to 255 core.errors.double) core.errors.status5) core
 
--- "data bit 0 clears the bunch counter, bit 1 the event counter"; document 02, Q-5: "Clearing a counter by .. broadcast .. clears its kept bytes."
+-- "data bit 0 clears the bunch counter, bit 1 the event counter"
 unfoldable pub cleared_by : ℕ → Core → Core
 cleared_by byte core =
     let first = cond (eqb (byte % 2) 1) (clear_bunch core) core in
@@ -89,7 +89,7 @@ row_effect Other fields core = core
 abbrev pub row : ℕ → Core → Row
 row verdict core = record { verdict = verdict; core = core }
 
--- 1, "short": "data bit 0 clears the bunch counter, bit 1 the event counter", each with its kept bytes; all 8 bits are in the word. Then the rows of a long frame.
+-- 1, "short": "data bit 0 clears the bunch counter, bit 1 the event counter"; all 8 bits are in the word. Then the rows of a long frame.
 abbrev pub good_row : Kind → Fields → Core → Row
 good_row Short fields core = row 1 (cleared_by fields.«data» core)
 good_row Long fields core = let chosen = long_row fields core.ids.id in row (row_verdict chosen) (row_effect chosen fields core)

@@ -80,7 +80,7 @@ fn double_up(core: Core) -> Core
     core
 }
 
-// A broadcast's bit 0 clears the bunch counter, bit 1 the event counter, each with its kept bytes.
+// A broadcast's bit 0 clears the bunch counter, bit 1 the event counter.
 // Each exit is one of the four ways, so that the proof needs no join.
 fn clear_by(byte: u8, core: Core) -> Core
     ensures { result ≡ cleared_by byte core }

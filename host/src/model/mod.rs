@@ -1,4 +1,4 @@
-//! An independent model of document 01, and of of document 02: frames and
+//! An independent model of document 01, and of of document 02: frames and
 //! their columns, stored lines, fine delays, the receiver, blocks of clocks, and the program
 //! `ttclines`.
 //!
@@ -12,13 +12,11 @@
 //! of channel B are kept, and compared with 41 ones; the ones still wanted are worked out only for
 //! the plain state. A fine delay byte is found by a search with the formula of the way back, a
 //! setting by one with the formula of the byte. Of registers 0 and 1 the settings are kept, not the
-//! bytes: a byte is refused there if no setting is found for it. Of a bunch or event number that was
-//! read no byte is kept, but how far the counter has gone since: the number then is worked out from
-//! the number now. The model depends on nothing else of this package.
+//! bytes: a byte is refused there if no setting is found for it. The model depends on nothing else
+//! of this package.
 
 pub mod block;
 mod columns;
-mod counter;
 mod delay;
 mod frame;
 mod line;

@@ -1,11 +1,10 @@
-//! "One clock" and "Fate of a finished frame" of document 01, and of
-//! document 02: the receiver.
+//! "One clock" and "Fate of a finished frame" of document 01, and of document
+//! 02: the receiver.
 //!
 //! A function whose name ends in `_with` uses the columns that it is given; the same name without
 //! that is the function with document 01's own. The state keeps no columns: a frame is decoded with
 //! those of its last clock.
 
-use super::counter::Counter;
 use super::frame::{bits, decode_with, leading};
 use super::stored::Stored;
 use super::{Columns, Decoded, Fields, Kind, Refusal, Verdict};
@@ -217,14 +216,14 @@ pub struct Receiver {
     pub(super) single_errors: u16,
     pub(super) double_errors: u8,
     pub(super) status_bit_5: bool,
-    pub(super) bunch: Counter<BUNCHES>,
-    pub(super) event: Counter<EVENTS>,
+    pub(super) bunch: u16,
+    pub(super) event: u32,
     pub(super) left: Left,
     pub(super) channel_b: ChannelB,
 }
 
 /// "One clock": the counters go up modulo these.
-pub(super) const BUNCHES: u32 = 4096;
+pub(super) const BUNCHES: u16 = 4096;
 pub(super) const EVENTS: u32 = 1 << 24;
 
 /// "Registers": the fresh bytes of Config 2 and Config 3. Bit 7 of both is 1.
@@ -258,8 +257,8 @@ impl Receiver {
             single_errors: 0,
             double_errors: 0,
             status_bit_5: true,
-            bunch: Counter::CLEARED,
-            event: Counter::CLEARED,
+            bunch: 0,
+            event: 0,
             left: Left::Nothing,
             channel_b: ChannelB::WAITING,
         }
@@ -268,13 +267,13 @@ impl Receiver {
     /// The bunch counter.
     #[inline]
     pub fn bunch(&self) -> u16 {
-        self.bunch.now() as u16
+        self.bunch
     }
 
     /// The event counter.
     #[inline]
     pub fn event(&self) -> u32 {
-        self.event.now()
+        self.event
     }
 
     /// "One clock": steps 1 to 3, the frame's effect last, over the numbers before this clock.
@@ -283,9 +282,9 @@ impl Receiver {
         let running = !matches!(self.left, Left::Nothing);
         let bus = self.bus(trigger);
         if trigger {
-            self.event.step();
+            self.event = (self.event + 1) % EVENTS;
         }
-        self.bunch.step();
+        self.bunch = (self.bunch + 1) % BUNCHES;
         let finished = self.channel_b.take(data);
         let fate = match finished {
             Some((kind, number)) => self.finish(columns, kind, number),
@@ -360,17 +359,17 @@ impl Receiver {
 
     /// "One clock", step 1: the modes of control bits 1..0.
     fn start_sequence(&mut self) -> Bus {
-        let event = Event::of(self.event());
+        let event = Event::of(self.event);
         match self.stored.mode() {
             0 => Bus::None,
-            1 => Bus::Bunch(self.bunch()),
+            1 => Bus::Bunch(self.bunch),
             2 => {
                 self.left = Left::High(event);
                 Bus::EventLow(event.low)
             }
             _ => {
                 self.left = Left::LowAndHigh(event);
-                Bus::Bunch(self.bunch())
+                Bus::Bunch(self.bunch)
             }
         }
     }
@@ -446,13 +445,13 @@ impl Receiver {
     }
 
     /// "Fate of a finished frame", verdict 1: bit 0 clears the bunch counter, bit 1 the event
-    /// counter. Q-5: "Clearing a counter by register, broadcast or RESET clears its kept bytes."
+    /// counter.
     fn broadcast(&mut self, data: u8) {
         if data & 1 == 1 {
-            self.bunch = Counter::CLEARED;
+            self.bunch = 0;
         }
         if data & 2 == 2 {
-            self.event = Counter::CLEARED;
+            self.event = 0;
         }
     }
 }

@@ -1,6 +1,5 @@
-//! "Registers" of document 01, with what Q-5 of document 02 adds: the map, and accesses between clocks.
+//! "Registers" of document 01: the map, and accesses between clocks.
 
-use super::counter::Counter;
 use super::receiver::FRESH_CONFIG;
 use super::state::config_bit_7;
 use super::{Receiver, Refusal};
@@ -41,9 +40,8 @@ fn register(number: u8) -> Result<Register, Refusal> {
 }
 
 impl Receiver {
-    /// "Registers", the column "holds": the byte of a register. A read of the low byte of the bunch or
-    /// event counter changes what the registers above it show, and no read changes anything else.
-    pub fn read(&mut self, number: u8) -> Result<u8, Refusal> {
+    /// "Registers", the column "holds": the byte of a register.
+    pub fn read(&self, number: u8) -> Result<u8, Refusal> {
         Ok(match register(number)? {
             Register::Stored(place) => self.stored.bytes()[place],
             Register::SingleErrors(byte) => self.single_errors.to_le_bytes()[byte],
@@ -53,8 +51,8 @@ impl Receiver {
             Register::I2c => self.i2c,
             Register::Config(place) => self.config(place),
             Register::Status => self.status(),
-            Register::Bunch(byte) => self.bunch.read(byte),
-            Register::Event(byte) => self.event.read(byte),
+            Register::Bunch(byte) => self.bunch.to_le_bytes()[byte],
+            Register::Event(byte) => self.event.to_le_bytes()[byte],
         })
     }
 
@@ -81,8 +79,8 @@ impl Receiver {
                 let bit_7 = config_bit_7(value, FRESH_CONFIG[place]);
                 self.config_bit_7[place] = bit_7.ok_or(Refusal::Config)?;
             }
-            Register::Bunch(_) => self.bunch = Counter::CLEARED,
-            Register::Event(_) => self.event = Counter::CLEARED,
+            Register::Bunch(_) => self.bunch = 0,
+            Register::Event(_) => self.event = 0,
         }
         Ok(())
     }

@@ -1,11 +1,10 @@
-//! "Well formed" of document 01, clause by clause, with what Q-1, Q-4 and Q-5 of document 02 add:
-//! plain numbers as the model's receiver, and the way back. No clause speaks of registers 2 and 3, of
-//! the error counters or of the kept bytes of the event counter: every value is one of them.
+//! "Well formed" of document 01, clause by clause, with what Q-1 and Q-4 of document 02 add: plain
+//! numbers as the model's receiver, and the way back. No clause speaks of registers 2 and 3 or of
+//! the error counters: every value is one of them.
 
-use super::counter::Counter;
 use super::frame::bits;
 use super::receiver::{ids_in_range, Bits, ChannelB, Event, LastBits, Left};
-use super::receiver::{EVENTS, FRESH_CONFIG, LONGEST, RUN};
+use super::receiver::{BUNCHES, EVENTS, FRESH_CONFIG, LONGEST, RUN};
 use super::stored::Stored;
 use super::Receiver;
 
@@ -26,9 +25,6 @@ pub struct State {
     /// Words that a sequence has left, and its kept event number.
     pub left: u8,
     pub kept: u32,
-    /// Q-5: "the kept bytes", of register 25, and of 27 and 28.
-    pub bunch_byte: u8,
-    pub event_bytes: [u8; 2],
     /// Q-1: "the ones still wanted, 0 when waiting".
     pub ones_wanted: u8,
     /// How many bits of an unfinished frame are held, and they as a number.
@@ -41,7 +37,12 @@ pub(super) fn config_bit_7(byte: u8, fresh: u8) -> Option<bool> {
     ((byte ^ fresh) & 0x7F == 0).then_some(byte >> 7 == 1)
 }
 
-/// "event numbers under 2^24": here the kept number.
+/// "bunch under 4096"
+fn bunch(number: u16) -> Option<u16> {
+    (number < BUNCHES).then_some(number)
+}
+
+/// "event numbers under 2^24": the event counter and the kept number.
 fn event(number: u32) -> Option<u32> {
     (number < EVENTS).then_some(number)
 }
@@ -94,8 +95,7 @@ fn channel_b(held: Bits, ones_wanted: u8) -> Option<ChannelB> {
 }
 
 impl Receiver {
-    /// The receiver of a state; none if it is not well formed. "Bunch under 4096, event numbers under
-    /// 2^24", and Q-5: "bunch part under 16", with which the number that was read is under 4096.
+    /// The receiver of a state; none if it is not well formed.
     pub fn from_state(state: &State) -> Option<Receiver> {
         ids_in_range(state.id, state.i2c).ok()?;
         Some(Receiver {
@@ -109,8 +109,8 @@ impl Receiver {
             single_errors: state.single_errors,
             double_errors: state.double_errors,
             status_bit_5: flag(state.status5)?,
-            bunch: Counter::of(state.bunch.into(), &[state.bunch_byte])?,
-            event: Counter::of(state.event, &state.event_bytes)?,
+            bunch: bunch(state.bunch)?,
+            event: event(state.event)?,
             left: sequence(state.left, state.kept)?,
             channel_b: channel_b(frame_bits(state.held, state.bits)?, state.ones_wanted)?,
         })
@@ -120,8 +120,6 @@ impl Receiver {
     pub fn state(&self) -> State {
         let (left, kept) = self.sequence();
         let (bits, ones_wanted) = self.bits_and_ones_wanted();
-        let [_, bunch_byte, ..] = self.bunch.at_the_read();
-        let [_, event_27, event_28, _] = self.event.at_the_read();
         State {
             id: self.id,
             i2c: self.i2c,
@@ -130,12 +128,10 @@ impl Receiver {
             single_errors: self.single_errors,
             double_errors: self.double_errors,
             status5: self.status_bit_5.into(),
-            bunch: self.bunch(),
-            event: self.event(),
+            bunch: self.bunch,
+            event: self.event,
             left,
             kept,
-            bunch_byte,
-            event_bytes: [event_27, event_28],
             ones_wanted,
             held: bits.length as u8,
             bits: bits.number(),

@@ -53,7 +53,7 @@ pub struct Shown {
     pub outputs: Outputs,
 }
 
-/// Makes a call. The state becomes the one that the call returns.
+/// Makes a call. The state becomes the one that the call returns, or that a read leaves.
 pub fn call(library: &dyn Library, state: &mut Receiver, call: Call) -> Shown {
     let mut shown = Shown::default();
     match call {
@@ -65,7 +65,6 @@ pub fn call(library: &dyn Library, state: &mut Receiver, call: Call) -> Shown {
         }
         Call::Read { number } => {
             let answer = library.read(*state, number);
-            *state = answer.receiver;
             shown.refusal = answer.refusal;
             shown.byte = answer.byte;
         }

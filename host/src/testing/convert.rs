@@ -21,8 +21,8 @@ macro_rules! answers {
 }
 
 answers! {
-    Encoded Decoded Line Written Byte Setting FreshAnswer ClockAnswer WriteAnswer BlockOutcome
-    ColumnsAnswer
+    Encoded Decoded Line Written Byte Setting FreshAnswer ClockAnswer ReadAnswer WriteAnswer
+    BlockOutcome ColumnsAnswer
 }
 
 /// A number of refusal, and the index that is told with it: 0 but with 28.
@@ -96,11 +96,6 @@ where
 /// A refused clock: the state as given, the outputs 0.
 pub fn refused_clock(refusal: u8, receiver: Receiver) -> ClockAnswer {
     ClockAnswer { receiver, ..ClockAnswer::refused(refusal) }
-}
-
-/// A refused read: the state as given, the byte 0.
-pub fn refused_read(refusal: u8, receiver: Receiver) -> ReadAnswer {
-    ReadAnswer { refusal, byte: 0, receiver }
 }
 
 /// A refused write: the state as given.
@@ -185,8 +180,6 @@ pub fn plain(state: &Receiver) -> State {
         event: core.counters.event,
         left: core.sequence.left,
         kept: core.sequence.event,
-        bunch_byte: core.kept.bunch25,
-        event_bytes: [core.kept.event27, core.kept.event28],
         ones_wanted: held.ones_wanted,
         held: held.count,
         bits: held.bits,
@@ -206,7 +199,6 @@ pub fn from_plain(state: &State) -> Receiver {
         },
         counters: Counters { bunch: state.bunch, event: state.event },
         sequence: Sequence { left: state.left, event: state.kept },
-        kept: kept(state),
     };
     let held = Held { count: state.held, ones_wanted: state.ones_wanted, bits: state.bits };
     Receiver { core, held }
@@ -217,12 +209,6 @@ fn settings(state: &State) -> Settings {
     let [fine1, fine2, coarse, control] = state.registers;
     let [config2, config3] = state.config;
     Settings { fine1, fine2, coarse, control, config2, config3 }
-}
-
-#[inline]
-fn kept(state: &State) -> Kept {
-    let [event27, event28] = state.event_bytes;
-    Kept { bunch25: state.bunch_byte, event27, event28 }
 }
 
 /// The model's report of any report.

@@ -72,10 +72,8 @@ pub trait Library {
     }
 
     fn read(&self, receiver: Receiver, number: u8) -> ReadAnswer {
-        match changed(receiver, |model| model.read(number)) {
-            Ok((receiver, byte)) => ReadAnswer { refusal: 0, byte, receiver },
-            Err(refusal) => convert::refused_read(refusal as u8, receiver),
-        }
+        let byte = convert::receiver(&receiver).and_then(|model| model.read(number));
+        answer(byte, |byte| ReadAnswer { refusal: 0, byte })
     }
 
     fn write(&self, receiver: Receiver, number: u8, value: u8) -> WriteAnswer {

@@ -185,7 +185,7 @@ fn empty_blocks_with_columns() {
 fn any_states_with_columns() {
     let mut driver = Driver::of("blocks with columns from any states", 527);
     let mut refusals = [0u32; 3];
-    for _ in 0..25_000 {
+    for _ in 0..20_000 {
         let table = any(&mut driver.random);
         driver.state = states::any_with(&mut driver.random, &convert::columns(&table));
         driver.columns = Some(table.to_vec());
@@ -198,5 +198,5 @@ fn any_states_with_columns() {
         refusals[usize::from(answer.refusal)] += 1;
     }
     assert!(refusals.iter().all(|&count| count > 1_000), "{refusals:?}");
-    driver.both.at_least(25_000 * 6);
+    driver.both.at_least(20_000 * 6);
 }

@@ -1,5 +1,5 @@
 //! `ttcrx_run_block` and `ttcrx_filled_length`, Q-3 of document 02, against the model's single
-//! clocks: states, answers and whole buffers. are tried in blocks too, and blocks
+//! clocks: states, answers and whole buffers. are tried in blocks too, and blocks
 //! with the lent columns of Q-11, `ttcrx_run_block_with_columns`.
 
 mod by_hand;
@@ -8,7 +8,6 @@ mod cuts;
 mod driver;
 mod empty;
 mod filled;
-mod kept;
 mod no_setting;
 mod places;
 mod quiet;

@@ -1,10 +1,9 @@
-//! Receivers that live long: block after block, with register reads and writes between them.
+//! Receivers that live long: block after block, with register writes between them.
 
 use crate::driver::Driver;
 use crate::tallies::{Blocks, Records};
 use ttcrx_host::model::block::byte;
-use ttcrx_host::sys::{Counters, Errors, Kept, Receiver, Record, BLOCK_CLOCKS, RECORD_NUMBERS};
-use ttcrx_host::sys::{CODE_VERDICT, VERDICT_BROADCAST, VERDICT_RESET};
+use ttcrx_host::sys::{Counters, Errors, Receiver, BLOCK_CLOCKS, RECORD_NUMBERS};
 use ttcrx_host::testing::coverage::{assert_seen, Tally};
 use ttcrx_host::testing::library::Library;
 use ttcrx_host::testing::traffic::{Habit, Traffic, LIVELY, QUIET, RARE};
@@ -24,14 +23,12 @@ struct Runs {
     blocks: Blocks,
     modes: Tally<2>,
     cleared: Tally<1>,
-    kept: Tally<3>,
     clocks: u64,
 }
 
 impl Runs {
     fn of(name: &'static str, seed: u64) -> Runs {
         let cleared = "counter cleared by a write to (8, 9, 10, 24 to 28)";
-        let kept = "some kept byte not 0 before a block, of the counter (bunch, event)";
         Runs {
             driver: Driver::of(name, seed),
             traffic: Traffic::new(seed),
@@ -39,7 +36,6 @@ impl Runs {
             blocks: Blocks::default(),
             modes: Tally::of([("mode written", 0, 3), ("words left", 0, 2)]),
             cleared: Tally::of([(cleared, 0, 7)]),
-            kept: Tally::of([(kept, 0, 1), ("broadcast clears it", 0, 1), ("RESET", 0, 1)]),
             clocks: 0,
         }
     }
@@ -78,31 +74,7 @@ impl Runs {
         let states = (&before, &self.driver.state);
         self.blocks.seen((length, room), states, &records);
         self.records.seen(&records);
-        self.keeps(&before, &records);
         self.clocks += length as u64;
-    }
-
-    /// Q-5 of document 02: a block leaves the kept bytes of a counter, but if a record of it is a
-    /// broadcast that clears the counter, or RESET.
-    fn keeps(&mut self, before: &Receiver, records: &[Record]) {
-        let verdict = |record: &Record| (record.code & CODE_VERDICT) as u8;
-        let reset = records.iter().any(|record| verdict(record) == VERDICT_RESET);
-        let broadcasts = records.iter().filter(|record| verdict(record) == VERDICT_BROADCAST);
-        let bits = broadcasts.fold(0, |bits, record| bits | record.word);
-        let Kept { bunch25, event27, event28 } = before.core.kept;
-        let mut left = before.core.kept;
-        for (counter, some) in [(0, bunch25 != 0), (1, event27 != 0 || event28 != 0)] {
-            let cleared = bits >> counter & 1 == 1;
-            if some {
-                self.kept.seen([counter, cleared.into(), reset.into()]);
-            }
-            match counter {
-                _ if !cleared && !reset => {}
-                0 => left.bunch25 = 0,
-                _ => (left.event27, left.event28) = (0, 0),
-            }
-        }
-        self.driver.both.same(before, self.driver.state.core.kept, left);
     }
 
     fn write(&mut self, number: u8, value: u8) {
@@ -110,17 +82,6 @@ impl Runs {
         let answer = both.write(*state, number, value);
         both.same((number, value), answer.refusal, 0);
         *state = answer.receiver;
-    }
-
-    /// Reads of any register, mostly of those of both counters. The receiver becomes the state that
-    /// each hands back.
-    fn reads(&mut self) {
-        let Driver { both, state, random, .. } = &mut self.driver;
-        while random.once_in(2) {
-            let any = random.byte();
-            let number = random.pick(&[24, 25, 26, 27, 28, any]);
-            *state = both.read(*state, number).receiver;
-        }
     }
 
     /// Any mode, any counter cleared; often nothing.
@@ -145,7 +106,6 @@ impl Runs {
         let end = self.clocks + clocks;
         while self.clocks < end {
             self.block();
-            self.reads();
             self.writes();
         }
     }
@@ -170,7 +130,7 @@ fn lively_and(mut runs: Runs, fresh: Receiver, id: u16, habit: Habit) {
     runs.traffic.assert_complete();
     runs.records.assert_complete();
     runs.blocks.assert_complete();
-    assert_seen(&[&runs.modes, &runs.cleared, &runs.kept]);
+    assert_seen(&[&runs.modes, &runs.cleared]);
     println!("{} clocks", runs.clocks);
     assert!(runs.clocks >= 2 * CLOCKS, "too few clocks");
     runs.driver.both.at_least(50_000);

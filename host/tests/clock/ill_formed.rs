@@ -62,7 +62,7 @@ fn expect_edges(
 #[test]
 fn edges_of_ids_and_numbers() {
     let name = "states with an ID or a number at its edge";
-    expect_edges(name, (50, 200, 27), edges::numbers);
+    expect_edges(name, (50, 200, 23), edges::numbers);
 }
 
 #[test]
@@ -75,12 +75,6 @@ fn every_config_byte() {
 fn every_fine_delay() {
     let name = "states with every byte in the fine delay registers";
     expect_edges(name, (57, 10, 3 * 256), edges::fine_delays);
-}
-
-#[test]
-fn every_kept_bunch_byte() {
-    let name = "states with every kept byte of the bunch counter";
-    expect_edges(name, (58, 10, 3 * 256), edges::kept_bunch_bytes);
 }
 
 #[test]

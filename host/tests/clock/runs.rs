@@ -5,7 +5,7 @@ use ttcrx_host::model::{self, Columns};
 use ttcrx_host::sys::{ClockAnswer, Receiver, REFUSED_STATE};
 use ttcrx_host::testing::calls::{access, call, expected, no_clock, refused_clock, Call, Shown};
 use ttcrx_host::testing::compare::Both;
-use ttcrx_host::testing::coverage::{Accesses, Coverage, Kept, Quiet};
+use ttcrx_host::testing::coverage::{Accesses, Coverage, Quiet};
 use ttcrx_host::testing::library::{Library, Proved};
 use ttcrx_host::testing::random::Random;
 use ttcrx_host::testing::traffic::{Habit, Traffic, LIVELY, QUIET, RARE};
@@ -16,7 +16,6 @@ struct Runs {
     coverage: Coverage,
     accesses: Accesses,
     quiet: Quiet,
-    kept: Kept,
     traffic: Traffic,
     random: Random,
 }
@@ -51,7 +50,6 @@ impl Runs {
         self.both.same((before, made), (shown, *state), expected);
         self.accesses.call(&before, made, state);
         self.quiet.call(&before, made);
-        self.kept.call(&before, made, &shown);
         match made {
             Call::Clock { data, .. } if made.is_clock() => {
                 let answer = ClockAnswer {
@@ -68,11 +66,10 @@ impl Runs {
     /// Calls with an ill-formed state, right ones among them: refused, and the state as it came.
     fn ill_formed(&mut self, mut state: Receiver) {
         let settings = &mut state.core.settings;
-        match self.random.below(4) {
+        match self.random.below(3) {
             0 => state.core.ids.i2c |= 64,
             1 => settings.fine1 |= 0xF0,
-            2 => settings.fine2 |= 0xF0,
-            _ => state.core.kept.bunch25 |= 16,
+            _ => settings.fine2 |= 0xF0,
         }
         let right = Call::Clock { trigger: 1, data: 0 };
         let over = refused_clock(&mut self.random);
@@ -104,7 +101,6 @@ fn long_runs() {
         coverage: Coverage::default(),
         accesses: Accesses::default(),
         quiet: Quiet::default(),
-        kept: Kept::default(),
         traffic: Traffic::new(60),
         random: Random::new(61),
     };
@@ -121,6 +117,5 @@ fn long_runs() {
     runs.coverage.assert_complete();
     runs.accesses.assert_complete();
     runs.quiet.assert_complete();
-    runs.kept.assert_complete();
     runs.both.at_least(23_500_000);
 }

@@ -8,7 +8,7 @@ use ttcrx_host::tallies;
 use ttcrx_host::testing::calls::{call, expected, no_clock, Call};
 use ttcrx_host::testing::columns::{self, Table};
 use ttcrx_host::testing::compare::Cases;
-use ttcrx_host::testing::coverage::{kind, Kept, KINDS};
+use ttcrx_host::testing::coverage::{kind, KINDS};
 use ttcrx_host::testing::lending::Lending;
 use ttcrx_host::testing::library::Proved;
 use ttcrx_host::testing::random::Random;
@@ -44,7 +44,6 @@ struct Runs<'a> {
     traffic: Traffic,
     random: Random,
     seen: Seen,
-    kept: Kept,
 }
 
 impl Runs<'_> {
@@ -64,7 +63,6 @@ impl Runs<'_> {
         let shown = call(&self.lending, &mut pair.state, made);
         let due = (expected(&mut pair.model, &self.columns, made), convert::state(&pair.model));
         self.cases.same((before, self.table, made), (shown, pair.state), due);
-        self.kept.call(&before, made, &shown);
         let long = before.held.count > 15;
         let held = u8::from(before.held.count > 0) + u8::from(long);
         self.seen.calls.seen([kind(made), held]);
@@ -140,17 +138,15 @@ fn long_runs() {
         traffic: Traffic::new(760),
         random: Random::new(761),
         seen: Seen::default(),
-        kept: Kept::default(),
     };
     for habit in [LIVELY, RARE] {
         runs.run(ttcrx::fresh(5, 5).receiver, habit, 300_000);
     }
-    for _ in 0..400 {
+    for _ in 0..100 {
         let start = states::well_formed(&mut runs.random);
-        runs.run(start, LIVELY, 1_000);
+        runs.run(start, LIVELY, 4_000);
     }
     runs.traffic.assert_complete();
     runs.seen.assert_complete();
-    runs.kept.assert_complete();
     runs.cases.at_least(1_190_000);
 }

@@ -1,10 +1,9 @@
-//! "Demand 3, over lists of calls" of document 01, and of document 02 over
+//! "Demand 3, over lists of calls" of document 01, and of document 02 over
 //! such lists, as properties of any library: of the model, of the proved library, and of the latter
 //! with every answer compared with the model's. What is expected comes from the papers' words; the
 //! model's clock is not asked.
 
 mod frames;
-mod moments;
 mod quiet;
 mod runner;
 mod sent;
@@ -97,23 +96,6 @@ fn the_library_keeps_settings() {
 fn the_library_answers_like_the_model_and_keeps_settings() {
     let both = Both::of("calls of lists from fresh");
     settings::check(&both, 91, 3_000);
-    both.at_least(2_000_000);
-}
-
-#[test]
-fn the_model_keeps_numbers() {
-    moments::check(&Model, 110, 4_000);
-}
-
-#[test]
-fn the_library_keeps_numbers() {
-    moments::check(&Proved, 110, 4_000);
-}
-
-#[test]
-fn the_library_answers_like_the_model_and_keeps_numbers() {
-    let both = Both::of("calls of lists with reads of both counters");
-    moments::check(&both, 111, 4_000);
     both.at_least(2_000_000);
 }
 

@@ -3,7 +3,7 @@
 use ttcrx_host::sys::{Outputs, Receiver};
 use ttcrx_host::testing::calls::{call, Call, Shown};
 use ttcrx_host::testing::compare::Cases;
-use ttcrx_host::testing::coverage::{Accesses, Kept, Quiet};
+use ttcrx_host::testing::coverage::{Accesses, Quiet};
 use ttcrx_host::testing::library::Library;
 
 /// A library and what was compared and seen of it.
@@ -12,7 +12,6 @@ pub struct Runner<'a> {
     pub cases: Cases,
     pub accesses: Accesses,
     pub quiet: Quiet,
-    pub kept: Kept,
 }
 
 /// What a list has answered.
@@ -49,7 +48,6 @@ impl<'a> Runner<'a> {
             cases: Cases::of(name),
             accesses: Accesses::default(),
             quiet: Quiet::default(),
-            kept: Kept::default(),
         }
     }
 
@@ -70,7 +68,6 @@ impl<'a> Runner<'a> {
             self.refuses(each, shown, &run);
             self.accesses.call(&run.before_last, each, &run.end);
             self.quiet.call(&run.before_last, each);
-            self.kept.call(&run.before_last, each, &shown);
             run.shown.push(shown);
             run.states.push(run.end);
         }

@@ -1,5 +1,5 @@
-//! Properly encoded frames, and what document 01's table, amended by of document 02, says
-//! of their fields.
+//! Properly encoded frames, and what document 01's table, amended by Q-4 of document 02, says of
+//! their fields.
 
 use ttcrx_host::model::{Columns, Fields, Kind};
 use ttcrx_host::sys::*;
@@ -83,7 +83,7 @@ impl Sent {
         let mut state = idle;
         state.core.errors.status5 = 1;
         match (self.row(ids.id), self) {
-            (VERDICT_BROADCAST, Sent::Short(data)) => clear(&mut state.core, data),
+            (VERDICT_BROADCAST, Sent::Short(data)) => clear(&mut state.core.counters, data),
             (VERDICT_STORED, Sent::Long(fields)) => store(&mut state.core.settings, fields),
             (VERDICT_RESET, _) => state = Model.fresh(ids.id, ids.i2c).receiver,
             _ => {}
@@ -92,16 +92,13 @@ impl Sent {
     }
 }
 
-/// "Data bit 0 clears the bunch counter, bit 1 the event counter." Q-5: "clears its kept bytes".
-fn clear(core: &mut Core, data: u8) {
+/// "Data bit 0 clears the bunch counter, bit 1 the event counter."
+fn clear(counters: &mut Counters, data: u8) {
     if data & 0b01 != 0 {
-        core.counters.bunch = 0;
-        core.kept.bunch25 = 0;
+        counters.bunch = 0;
     }
     if data & 0b10 != 0 {
-        core.counters.event = 0;
-        core.kept.event27 = 0;
-        core.kept.event28 = 0;
+        counters.event = 0;
     }
 }
 

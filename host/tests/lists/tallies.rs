@@ -3,11 +3,8 @@
 use crate::runner::Run;
 use crate::sent::Sent;
 use ttcrx_host::model::{Fields, Kind};
-use ttcrx_host::sys::{
-    Core, Errors, PLACES_LONG, PLACES_SHORT, VERDICT_NO_SETTING, VERDICT_STORED,
-};
+use ttcrx_host::sys::{Errors, PLACES_LONG, PLACES_SHORT, VERDICT_NO_SETTING, VERDICT_STORED};
 use ttcrx_host::tallies;
-use ttcrx_host::testing::coverage::keeping;
 use ttcrx_host::testing::frame::Frame;
 use ttcrx_host::testing::verdict::{of_good, GOOD as ROW};
 
@@ -17,8 +14,6 @@ const LEFT: (&str, u8, u8) = ("words left", 0, 2);
 const ADDRESS: (&str, u8, u8) = ("address (0, own, foreign)", 0, 2);
 const SUB_ADDRESS: (&str, u8, u8) = ("sub-address (0 to 3, 6, other)", 0, 2);
 const OF_TWO: (&str, u8, u8) = ("one of two flips", 0, 1);
-const KEPT: (&str, u8, u8) =
-    ("kept bytes of the idle list not 0, of the counter (bunch, event)", 0, 1);
 
 tallies! {
     pub struct Tallies {
@@ -27,8 +22,6 @@ tallies! {
         fields: [ADDRESS, ("E", 0, 1), SUB_ADDRESS, FLIPS],
         registers: [("register", 0, 3), ("own address", 0, 1), FLIPS],
         no_setting: [("no setting, register", 0, 1), ("own address", 0, 1), FLIPS],
-        kept: [KEPT, ROW, FLIPS],
-        cleared: [KEPT, ("broadcast bits", 0, 3), FLIPS],
         status5: [("status bit 5 of the idle list", 0, 1), FLIPS],
         single: [ROW, ("single errors at one flip (0, more, 65534, full)", 0, 3)],
         double: [ROW, ("double errors at two flips (0, more, 254, full)", 0, 3)],
@@ -49,7 +42,6 @@ impl Tallies {
             Sent::Short(data) => self.broadcasts.seen([data % 4, flips, trigger, left]),
             Sent::Long(fields) => self.long(fields, id, row, flips),
         }
-        self.kept(sent, &idle.end.core, row, flips);
         let errors = idle.end.core.errors;
         self.status5.seen([errors.status5, flips]);
         self.errors(row, flips, errors);
@@ -72,18 +64,6 @@ impl Tallies {
             VERDICT_STORED => self.registers.seen([fields.sub_address, address, flips]),
             VERDICT_NO_SETTING => self.no_setting.seen([fields.sub_address, address, flips]),
             _ => {}
-        }
-    }
-
-    /// kept bytes that the frame clears or leaves.
-    fn kept(&mut self, sent: Sent, idle: &Core, row: u8, flips: u8) {
-        for (counter, kept) in keeping(idle) {
-            if kept {
-                self.kept.seen([counter, of_good(row), flips]);
-            }
-            if let (Sent::Short(data), true) = (sent, kept) {
-                self.cleared.seen([counter, data % 4, flips]);
-            }
         }
     }
 

@@ -1,8 +1,8 @@
 //! Every register of random states.
 
-use ttcrx_host::sys::{Receiver, REFUSED_STATE};
+use ttcrx_host::sys::{ReadAnswer, Receiver, REFUSED_STATE};
 use ttcrx_host::testing::compare::Both;
-use ttcrx_host::testing::convert::{refused_read, refused_write};
+use ttcrx_host::testing::convert::{refused_write, Answer};
 use ttcrx_host::testing::library::{Library, Model};
 use ttcrx_host::testing::random::Random;
 use ttcrx_host::testing::states;
@@ -57,9 +57,9 @@ fn ill_formed(random: &mut Random) -> Receiver {
 fn reads_of_ill_formed_states() {
     let both = Both::of("reads of all registers from ill-formed states");
     let mut random = Random::new(72);
+    let refused = ReadAnswer::refused(REFUSED_STATE);
     for _ in 0..10_000 {
         let state = ill_formed(&mut random);
-        let refused = refused_read(REFUSED_STATE, state);
         for number in 0..=255 {
             both.same((state, number), both.read(state, number), refused);
         }

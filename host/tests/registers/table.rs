@@ -1,13 +1,11 @@
-//! The table "Registers" of document 01, row by row over the structs of ttcrx.h, with the kept bytes of
-//! Q-5 of document 02.
+//! The table "Registers" of document 01, row by row over the structs of ttcrx.h.
 
-use crate::due::{after_read, clear, BUNCH, EVENT};
-use ttcrx_host::sys::{Core, Counters, Errors, Held, Ids, Kept, Sequence, Settings};
+use ttcrx_host::sys::{Core, Counters, Errors, Held, Ids, Sequence, Settings};
 use ttcrx_host::sys::{ReadAnswer, Receiver, WriteAnswer};
 use ttcrx_host::sys::{REFUSED_CONFIG, REFUSED_NO_SETTING};
 use ttcrx_host::sys::{REFUSED_READ_ONLY, REFUSED_REGISTER, REFUSED_STATE};
 use ttcrx_host::testing::compare::Both;
-use ttcrx_host::testing::convert::{refused_clock, refused_read, refused_write};
+use ttcrx_host::testing::convert::{refused_clock, refused_write, Answer};
 use ttcrx_host::testing::frame::wanting;
 use ttcrx_host::testing::library::{Library, Model};
 use ttcrx_host::testing::random::Random;
@@ -28,14 +26,12 @@ const STATE: Receiver = Receiver {
         errors: Errors { single_errors: 0x9081, double_errors: 0xA2, status5: 1 },
         counters: Counters { bunch: 0x0DC4, event: 0xE8_D7F6 },
         sequence: Sequence { left: 2, event: 0x12_3456 },
-        kept: Kept { bunch25: 0x0B, event27: 0x5A, event28: 0xC3 },
     },
     held: Held { count: 20, ones_wanted: 0, bits: 0x4_5678 },
 };
 
 /// The registers, the bytes of this state, and those of the fresh one of its IDs. Low byte first.
-/// The ID has 14 bits and the bunch counter 12: their high bytes have 6 and 4. Registers 25, 27 and 28
-/// show the kept bytes, and not those of the counters now.
+/// The ID has 14 bits and the bunch counter 12: their high bytes have 6 and 4.
 const HOLDS: [(u8, u8, u8); 19] = [
     (0, 0x4D, 0x00),
     (1, 0xE5, 0x00),
@@ -52,15 +48,14 @@ const HOLDS: [(u8, u8, u8); 19] = [
     (21, 0xA7, 0xA7),
     (22, 0xE0, 0xE0),
     (24, 0xC4, 0x00),
-    (25, 0x0B, 0x00),
+    (25, 0x0D, 0x00),
     (26, 0xF6, 0x00),
-    (27, 0x5A, 0x00),
-    (28, 0xC3, 0x00),
+    (27, 0xD7, 0x00),
+    (28, 0xE8, 0x00),
 ];
 
-/// The answer to a read of this state.
-fn read_is(state: Receiver, number: u8, byte: u8) -> ReadAnswer {
-    ReadAnswer { refusal: 0, byte, receiver: after_read(state, number) }
+fn read_is(byte: u8) -> ReadAnswer {
+    ReadAnswer { refusal: 0, byte }
 }
 
 #[test]
@@ -69,18 +64,17 @@ fn reads() {
     let fresh = Model.fresh(0x2A1B, 0x3C).receiver;
     for number in 0..=255 {
         let row = HOLDS.iter().find(|row| row.0 == number);
-        let bytes = row.map(|(_, held, at_fresh)| [*held, *at_fresh]);
-        for (place, state) in [STATE, fresh].into_iter().enumerate() {
-            let expected = match bytes {
-                Some(bytes) => read_is(state, number, bytes[place]),
-                None => refused_read(REFUSED_REGISTER, state),
-            };
-            both.same((number, place), both.read(state, number), expected);
-        }
+        let expected = match row {
+            Some((_, held, at_fresh)) => [*held, *at_fresh].map(read_is),
+            None => [ReadAnswer::refused(REFUSED_REGISTER); 2],
+        };
+        let answers = [STATE, fresh].map(|state| both.read(state, number));
+        both.same(number, answers[0], expected[0]);
+        both.same(number, answers[1], expected[1]);
     }
     let mut slipped = STATE;
     slipped.core.errors.status5 = 0;
-    both.same("status", both.read(slipped, 22), read_is(slipped, 22, 0xC0));
+    both.same("status", both.read(slipped, 22), read_is(0xC0));
     both.at_least(2 * 513);
 }
 
@@ -96,8 +90,8 @@ const ACCEPTED: [Row; 9] = [
     (&[8, 9], |core, _| core.errors.single_errors = 0),
     (&[10], |core, _| core.errors.double_errors = 0),
     (&[11], |_, _| {}),
-    (&[24, 25], |core, _| clear(core, BUNCH)),
-    (&[26, 27, 28], |core, _| clear(core, EVENT)),
+    (&[24, 25], |core, _| core.counters.bunch = 0),
+    (&[26, 27, 28], |core, _| core.counters.event = 0),
 ];
 
 /// What the table says of a write: the refusal, and the state.
@@ -149,7 +143,7 @@ fn reads_after_a_write(both: &Both, counter: &[u8], number: u8, value: u8) {
             _ => held,
         };
         let answer = both.read(after, other);
-        both.same((number, value, other), answer, read_is(after, other, expected));
+        both.same((number, value, other), answer, read_is(expected));
     }
 }
 
@@ -172,8 +166,9 @@ fn ill_formed() {
     let both = Both::of("calls with an ill-formed state");
     let mut state = STATE;
     state.core.counters.bunch = 4096;
+    let refused = ReadAnswer::refused(REFUSED_STATE);
     for number in 0..=255 {
-        both.same(number, both.read(state, number), refused_read(REFUSED_STATE, state));
+        both.same(number, both.read(state, number), refused);
         for value in 0..=255 {
             let answer = both.write(state, number, value);
             both.same((number, value), answer, refused_write(REFUSED_STATE, state));

@@ -30,6 +30,15 @@ cast-result-5 c = search rules
 cast-result-6 : tie.Need-overflow-cast-result-6
 cast-result-6 c = search rules
 
+cast-result-7 : tie.Need-overflow-cast-result-7
+cast-result-7 c = search rules
+
+cast-result-8 : tie.Need-overflow-cast-result-8
+cast-result-8 c = search rules
+
+cast-result-9 : tie.Need-overflow-cast-result-9
+cast-result-9 c = search rules
+
 returns : tie.Need-returns
 unfolding register_byte
 returns c = rw c.match.keys1
@@ -92,7 +101,7 @@ returns-15 c = rw (c.before.match.keys15, div-one)
 
 returns-16 : tie.Need-returns-16
 unfolding register_byte
-returns-16 c = rw c.match.keys16
+returns-16 c = rw c.before.match.keys16
 
 returns-17 : tie.Need-returns-17
 unfolding register_byte
@@ -100,11 +109,11 @@ returns-17 c = rw (c.before.match.keys17, div-one)
 
 returns-18 : tie.Need-returns-18
 unfolding register_byte
-returns-18 c = rw c.match.keys18
+returns-18 c = rw c.before.match.keys18
 
 returns-19 : tie.Need-returns-19
 unfolding register_byte
-returns-19 c = rw c.match.keys19
+returns-19 c = rw c.before.match.keys19
 
 returns-20 : tie.Need-returns-20
 unfolding register_byte
@@ -122,6 +131,9 @@ register-byte-spec =
     add-result
     cast-result-5
     cast-result-6
+    cast-result-7
+    cast-result-8
+    cast-result-9
     returns
     returns-2
     returns-3

@@ -28,12 +28,9 @@ returns-2 c = rw (c.refuse-read2.ensures, ← c.before.before.read-refusal.ensur
 register-byte-requires : tie.Need-register-byte-requires
 register-byte-requires c κs = search rules
 
-keep-bytes-requires : tie.Need-keep-bytes-requires
-keep-bytes-requires c κs = search rules
-
 returns-3 : tie.Need-returns-3
 unfolding read_answer
-returns-3 c = rw (c.keep-bytes.ensures, c.before.register-byte.ensures, ← c.before.before.before.read-refusal.ensures) (search picks)
+returns-3 c = rw (c.register-byte.ensures, ← c.before.before.read-refusal.ensures) (search picks)
 
 pub read_spec : {M : Type 1} → statement M
 read_spec =
@@ -46,5 +43,4 @@ read_spec =
     refuse-read-requires-2
     returns-2
     register-byte-requires
-    keep-bytes-requires
     returns-3)

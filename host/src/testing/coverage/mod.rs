@@ -1,7 +1,6 @@
 //! Counts what the clocks of a test have shown, so that the test can name what it did not see.
 
 mod accesses;
-mod kept;
 mod quiet;
 mod tally;
 
@@ -9,7 +8,6 @@ use super::verdict;
 use crate::sys::{ClockAnswer, Receiver, PLACES_LONG, PLACES_SHORT, REFUSED_NO_SETTING};
 use crate::tallies;
 pub use accesses::{kind, Accesses, KINDS};
-pub use kept::{keeping, kept_bytes, Kept};
 pub use quiet::Quiet;
 pub use tally::{assert_seen, Seen, Tally};
 

@@ -1,5 +1,5 @@
-//! States at the edges of "Well formed" of document 01, clause by clause, and of what
-//! of document 02 add.
+//! States at the edges of "Well formed" of document 01, clause by clause, and of what of
+//! document 02 add.
 
 use super::well_formed;
 use crate::sys::{Core, Held, Receiver, Sequence};
@@ -44,15 +44,11 @@ const NUMBERS: [Change; 10] = [
 ];
 
 /// No clause limits these.
-const FREE: [Change; 8] = [
+const FREE: [Change; 4] = [
     ("coarse delay 255", true, |core| core.settings.coarse = 255),
     ("control 255", true, |core| core.settings.control = 255),
     ("single errors 65535", true, |core| core.errors.single_errors = 65535),
     ("double errors 255", true, |core| core.errors.double_errors = 255),
-    ("kept byte 27 is 0", true, |core| core.kept.event27 = 0),
-    ("kept byte 27 is 255", true, |core| core.kept.event27 = 255),
-    ("kept byte 28 is 0", true, |core| core.kept.event28 = 0),
-    ("kept byte 28 is 255", true, |core| core.kept.event28 = 255),
 ];
 
 /// An ID or a number at its edge.
@@ -97,20 +93,6 @@ pub fn fine_delays(random: &mut Random) -> Vec<Edge> {
             settings.fine1 = first.unwrap_or(settings.fine1);
             settings.fine2 = second.unwrap_or(settings.fine2);
             edges.push(Edge { name, good, state });
-        }
-    }
-    edges
-}
-
-/// Every kept byte of the bunch counter, beside one of its numbers with no, some and all upper bits.
-pub fn kept_bunch_bytes(random: &mut Random) -> Vec<Edge> {
-    let mut edges = Vec::new();
-    for bunch25 in 0..=255 {
-        for bunch in [0, 255, 4095] {
-            let mut state = well_formed(random);
-            state.core.counters.bunch = bunch;
-            state.core.kept.bunch25 = bunch25;
-            edges.push(Edge { name: "kept byte 25", good: bunch25 < 16, state });
         }
     }
     edges
@@ -192,12 +174,11 @@ pub fn ones_wanted(random: &mut Random) -> Vec<Edge> {
 }
 
 /// How many edges all clauses have, at the least.
-pub const STATES: u64 = 27 + 2 * 256 + 3 * 256 + 3 * 256 + 8 * 256 + 193 * 256 + 10 * 256;
+pub const STATES: u64 = 23 + 2 * 256 + 3 * 256 + 8 * 256 + 193 * 256 + 10 * 256;
 
 /// The edges of all clauses.
 pub fn all(random: &mut Random) -> Vec<Edge> {
-    let clauses =
-        [numbers, config_bytes, fine_delays, kept_bunch_bytes, words_left, held_bits, ones_wanted];
+    let clauses = [numbers, config_bytes, fine_delays, words_left, held_bits, ones_wanted];
     let edges = clauses.map(|edges| edges(random));
     edges.concat()
 }

@@ -7,7 +7,7 @@ use super::frame::{wanting, RUN};
 use super::random::Random;
 use super::traffic;
 use crate::model::Columns;
-use crate::sys::{Core, Counters, Errors, Held, Ids, Kept, Receiver, Sequence, Settings};
+use crate::sys::{Core, Counters, Errors, Held, Ids, Receiver, Sequence, Settings};
 
 /// 0 to limit - 1; often at the first or at the last of them.
 fn below(random: &mut Random, limit: u64) -> u64 {
@@ -41,13 +41,6 @@ fn sequence(random: &mut Random) -> Sequence {
         0 => Sequence::default(),
         left => Sequence { left, event },
     }
-}
-
-/// Kept bytes of any reads: of other numbers than the counters have now.
-pub fn kept(random: &mut Random) -> Kept {
-    let bunch25 = below(random, 16) as u8;
-    let mut byte = || below(random, 256) as u8;
-    Kept { bunch25, event27: byte(), event28: byte() }
 }
 
 /// Fine delays are bytes of a setting.
@@ -86,7 +79,6 @@ pub fn well_formed_with(random: &mut Random, columns: &Columns) -> Receiver {
                 event: below(random, 1 << 24) as u32,
             },
             sequence: sequence(random),
-            kept: kept(random),
         },
         held: held(random, columns, id),
     }
@@ -123,7 +115,6 @@ pub fn garbage(random: &mut Random) -> Receiver {
     };
     let (i2c, double_errors, status5, left) = (byte(), byte(), byte(), byte());
     let (count, ones_wanted) = (byte(), byte());
-    let kept = Kept { bunch25: byte(), event27: byte(), event28: byte() };
     Receiver {
         core: Core {
             ids: Ids { id: random.any_length() as u16, i2c },
@@ -134,7 +125,6 @@ pub fn garbage(random: &mut Random) -> Receiver {
                 event: random.any_length() as u32,
             },
             sequence: Sequence { left, event: random.any_length() as u32 },
-            kept,
         },
         held: Held { count, ones_wanted, bits: random.any_length() },
     }
@@ -185,9 +175,6 @@ pub fn mixed(random: &mut Random, mut first: Receiver, second: &Receiver) -> Rec
     }
     if random.once_in(12) {
         first.held.ones_wanted = second.held.ones_wanted;
-    }
-    if random.once_in(12) {
-        first.core.kept = second.core.kept;
     }
     if random.once_in(16) {
         first.core.settings.fine1 = no_setting(random);

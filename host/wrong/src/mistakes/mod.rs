@@ -5,7 +5,6 @@ pub mod blocks;
 pub mod clock;
 pub mod columns;
 pub mod frames;
-pub mod kept;
 pub mod lending;
 pub mod lines;
 pub mod no_setting;

@@ -161,14 +161,15 @@ pub fn fine_delay_240_well_formed(receiver: Receiver) -> u8 {
 }
 
 pub fn any_fine_delay_read(receiver: Receiver, number: u8) -> ReadAnswer {
-    let mut answer = Model.read(with_settings(receiver), number);
-    answer.receiver.core.settings = receiver.core.settings;
-    match (answer.refusal, number) {
-        (ACCEPTED, 0) => answer.byte = receiver.core.settings.fine1,
-        (ACCEPTED, 1) => answer.byte = receiver.core.settings.fine2,
-        _ => {}
+    match (Model.read(with_settings(receiver), number), number) {
+        (answer, 0) if answer.refusal == ACCEPTED => {
+            ReadAnswer { byte: receiver.core.settings.fine1, ..answer }
+        }
+        (answer, 1) if answer.refusal == ACCEPTED => {
+            ReadAnswer { byte: receiver.core.settings.fine2, ..answer }
+        }
+        (answer, _) => answer,
     }
-    answer
 }
 
 pub fn any_fine_delay_written(receiver: Receiver, number: u8, value: u8) -> WriteAnswer {

@@ -1,22 +1,21 @@
 //! Mistakes in register accesses.
 
 use crate::sys::*;
-use crate::testing::convert;
+use crate::testing::convert::{self, Answer};
 use crate::testing::library::{Library, Model};
 
 pub fn register_before_state(receiver: Receiver, number: u8) -> ReadAnswer {
     let fresh = Model.fresh(1, 0).receiver;
     match Model.read(fresh, number).refusal {
         ACCEPTED => Model.read(receiver, number),
-        refusal => convert::refused_read(refusal, receiver),
+        refusal => ReadAnswer::refused(refusal),
     }
 }
 
 pub fn bunch_high_byte_is_the_low_one(receiver: Receiver, number: u8) -> ReadAnswer {
-    let right = Model.read(receiver, number);
-    match (number, right.refusal) {
-        (25, ACCEPTED) => ReadAnswer { byte: Model.read(receiver, 24).byte, ..right },
-        _ => right,
+    match (Model.read(receiver, number), number) {
+        (right, 25) if right.refusal == ACCEPTED => Model.read(receiver, 24),
+        (right, _) => right,
     }
 }
 

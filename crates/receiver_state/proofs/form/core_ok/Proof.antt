@@ -38,10 +38,6 @@ returns-5 : tie.Need-returns-5
 unfolding every core_ok
 returns-5 c = search gates depth 14
 
-returns-6 : tie.Need-returns-6
-unfolding every core_ok
-returns-6 c = search gates depth 16
-
 pub core-ok-spec : {M : Type 1} → statement M
 core-ok-spec =
     tie.close
@@ -54,5 +50,4 @@ core-ok-spec =
     returns-3
     sequence-ok-requires
     returns-4
-    returns-5
-    returns-6)
+    returns-5)

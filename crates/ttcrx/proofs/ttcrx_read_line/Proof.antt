@@ -1,7 +1,7 @@
--- `ttcrx_frames::ttcrx_read_line` meets its contract, by what its callees ensure. Assumes nothing.
+-- `ttcrx::ttcrx_read_line` meets its contract, by what its callees ensure. Assumes nothing.
 use borrow.Author.Rules.{rules}
-use Rattle.ttcrx_frames.proofs.ttcrx_read_line.Statement.{statement}
-use Rattle.ttcrx_frames.proofs.ttcrx_read_line.Tie as tie
+use Rattle.ttcrx.proofs.ttcrx_read_line.Statement.{statement}
+use Rattle.ttcrx.proofs.ttcrx_read_line.Tie as tie
 
 read-line-requires : tie.Need-read-line-requires
 read-line-requires c κs = search rules

@@ -1,4 +1,4 @@
--- `ttcrx_blocks::ttcrx_run_block` meets its contract: a walk of its code by hand.
+-- `ttcrx::ttcrx_run_block` meets its contract: a walk of its code by hand.
 -- The receiver's borrow is opened, the struct is copied out, `run_block` is called on the copy, the block and the buffer. Where the block was
 -- accepted the answer's receiver is stored where the first one lay; where it was refused the two are equal. The borrow is closed at the answer's
 -- receiver. The buffer's borrow is handed on to the call for good.
@@ -68,14 +68,14 @@ use Rattle.trace.specs.contracts.run_block as callee
 use Rattle.trace.proofs.run_block.Symbol as callee-def
 use Rattle.trace.proofs.run_block.Symbol.{name as #trace·run-block}
 use Rattle.trace.proofs.run_block.Met as callee-thm
-use Rattle.ttcrx_blocks.specs.declared.BlockOutcome.{BlockOutcome}
-use Rattle.ttcrx_blocks.specs.contracts.BlockOutcome as O
-use Rattle.ttcrx_blocks.proofs.BlockOutcome.TheLaws as O'
-use Rattle.ttcrx_blocks.proofs.Walk.{assigns_if, refuses}
-use Rattle.ttcrx_blocks.specs.contracts.ttcrx_run_block as this
-use Rattle.ttcrx_blocks.specs.contracts.ttcrx_run_block.Key.{name as #ttcrx·ttcrx-run-block}
-use Rattle.ttcrx_blocks.proofs.ttcrx_run_block.Statement as stated
-use Rattle.ttcrx_blocks.proofs.ttcrx_run_block.Code as code
+use Rattle.ttcrx.specs.declared.BlockOutcome.{BlockOutcome}
+use Rattle.ttcrx.specs.contracts.BlockOutcome as O
+use Rattle.ttcrx.proofs.BlockOutcome.TheLaws as O'
+use Rattle.ttcrx.proofs.Walk.{assigns_if, refuses}
+use Rattle.ttcrx.specs.contracts.ttcrx_run_block as this
+use Rattle.ttcrx.specs.contracts.ttcrx_run_block.Key.{name as #ttcrx·ttcrx-run-block}
+use Rattle.ttcrx.proofs.ttcrx_run_block.Statement as stated
+use Rattle.ttcrx.proofs.ttcrx_run_block.Code as code
 
 -- what the two contracts say is done with a receiver, a block and a buffer
 abbrev due : Receiver → List ℕ → List ℕ → BlockDone

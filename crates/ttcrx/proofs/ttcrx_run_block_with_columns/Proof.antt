@@ -1,4 +1,4 @@
--- `ttcrx_blocks::ttcrx_run_block_with_columns` meets its contract: a walk of its code by hand.
+-- `ttcrx::ttcrx_run_block_with_columns` meets its contract: a walk of its code by hand.
 -- The receiver's borrow is opened, the struct is copied out, `run_block_with_columns` is called on the copy, the columns, the block and the buffer. Where the block was
 -- accepted the answer's receiver is stored where the first one lay; where it was refused the two are equal. The borrow is closed at the answer's
 -- receiver. The buffer's borrow is handed on to the call for good.
@@ -70,17 +70,17 @@ use Rattle.receiver_with_columns.specs.contracts.run_block_with_columns as calle
 use Rattle.receiver_with_columns.proofs.run_block_with_columns.Symbol as callee-def
 use Rattle.receiver_with_columns.proofs.run_block_with_columns.Symbol.{name as #receiver-with-columns·run-block}
 use Rattle.receiver_with_columns.proofs.run_block_with_columns.Met as callee-thm
-use Rattle.ttcrx_blocks.specs.declared.BlockOutcome.{BlockOutcome}
-use Rattle.ttcrx_blocks.specs.declared.OutcomeWithIndex.{OutcomeWithIndex}
-use Rattle.ttcrx_blocks.specs.contracts.BlockOutcome as P
-use Rattle.ttcrx_blocks.proofs.BlockOutcome.TheLaws as P'
-use Rattle.ttcrx_blocks.specs.contracts.OutcomeWithIndex as O
-use Rattle.ttcrx_blocks.proofs.OutcomeWithIndex.TheLaws as O'
-use Rattle.ttcrx_blocks.proofs.Walk.{assigns_if, refuses}
-use Rattle.ttcrx_blocks.specs.contracts.ttcrx_run_block_with_columns as this
-use Rattle.ttcrx_blocks.specs.contracts.ttcrx_run_block_with_columns.Key.{name as #ttcrx·ttcrx-run-block-with-columns}
-use Rattle.ttcrx_blocks.proofs.ttcrx_run_block_with_columns.Statement as stated
-use Rattle.ttcrx_blocks.proofs.ttcrx_run_block_with_columns.Code as code
+use Rattle.ttcrx.specs.declared.BlockOutcome.{BlockOutcome}
+use Rattle.ttcrx.specs.declared.OutcomeWithIndex.{OutcomeWithIndex}
+use Rattle.ttcrx.specs.contracts.BlockOutcome as P
+use Rattle.ttcrx.proofs.BlockOutcome.TheLaws as P'
+use Rattle.ttcrx.specs.contracts.OutcomeWithIndex as O
+use Rattle.ttcrx.proofs.OutcomeWithIndex.TheLaws as O'
+use Rattle.ttcrx.proofs.Walk.{assigns_if, refuses}
+use Rattle.ttcrx.specs.contracts.ttcrx_run_block_with_columns as this
+use Rattle.ttcrx.specs.contracts.ttcrx_run_block_with_columns.Key.{name as #ttcrx·ttcrx-run-block-with-columns}
+use Rattle.ttcrx.proofs.ttcrx_run_block_with_columns.Statement as stated
+use Rattle.ttcrx.proofs.ttcrx_run_block_with_columns.Code as code
 
 -- what the two contracts say is done with a receiver, columns, a block and a buffer
 abbrev due : Receiver → List ℕ → List ℕ → List ℕ → BlockDoneWithIndex
