@@ -1,6 +1,7 @@
 // Document 01, "Frames on channel B", with document 02, Q-1: what is held, the next bit, and what a
 // finished frame leaves held. No check number is computed here: that waits for a whole frame. Every
 // function takes any value held and any bit.
+#![tactic(auto)]
 ghost use Rattle.std.specs.Prelude.{◌≡◌, ◌+◌, ◌-◌, ◌*◌, ◌%◌, ◌^◌};
 ghost use Rattle.receiver_state.specs.State.{wanting_ones};
 ghost use Rattle.channel_b.specs.TakeBit.{frame_or_part, between_frames, take_bit, held_after};
@@ -10,7 +11,7 @@ use receiver_state::Held;
 use std::num::wrapping_add_u64;
 
 // What a bit of channel B leaves: what is then held; or a whole frame.
-#[derive(Drop)]
+#[derive(Clone, Copy)]
 pub enum Taken {
     Unfinished(Held),
     Finished { kind: Kind, number: u64 },

@@ -1,6 +1,7 @@
 // Document 02, Q-3: blocks on a receiver that is kept from one to the next, the part of the buffer
 // that they filled, and every refusal.
 // Numbers of the buffer that no block has written are 7.
+#![tactic(auto)]
 use receiver_state::{Receiver, fresh};
 use trace::{filled_part, run_block};
 

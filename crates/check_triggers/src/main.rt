@@ -2,6 +2,7 @@
 // sequence on the bus.
 // It prints the number of each clock, then what the clock shows; of a frame's clocks only those that
 // show something.
+#![tactic(auto)]
 use frame::{encode_long, encode_short};
 use receiver::clock;
 use receiver_state::{Counters, Outputs, Receiver, fresh};

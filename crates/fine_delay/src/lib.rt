@@ -1,13 +1,14 @@
 // Document 01, "Registers": fine delay settings and their bytes.
 //
 // There is no state: a setting or a byte goes by value, and so does the answer.
+#![tactic(auto)]
 ghost use Rattle.std.specs.Prelude.{◌≡◌, pos};
 ghost use Rattle.laws.specs.Remainder.{◌%ℤ◌};
 ghost use Rattle.fine_delay.specs.Delay.{byte_of, has_setting, setting_to_byte, byte_to_setting};
 
 // The answer to a setting: the number of refusal, and the byte.
 #[repr(C)]
-#[derive(Drop)]
+#[derive(Clone, Copy)]
 pub struct DelayByte {
     pub refusal: u8,
     pub byte: u8,
@@ -15,7 +16,7 @@ pub struct DelayByte {
 
 // The answer to a byte: the number of refusal, and the setting.
 #[repr(C)]
-#[derive(Drop)]
+#[derive(Clone, Copy)]
 pub struct DelaySetting {
     pub refusal: u8,
     pub setting: u8,

@@ -3,6 +3,7 @@
 //
 // There is no state: fields, words and frame numbers go by value. Columns are only read, and are
 // lent: below the public encoders and decoders, every function that needs columns takes them.
+#![tactic(auto)]
 ghost use Rattle.std.specs.Prelude.{◌≡◌, cond, ◌-◌, ◌%◌, ◌^◌};
 ghost use Rattle.hamming.specs.Code.{in_use, by_syndrome};
 ghost use Rattle.hamming.specs.Columns.{short_columns, long_columns};
@@ -16,7 +17,7 @@ ghost use Rattle.frame.specs.declared.Kind.TheVariants.{Short, Long};
 use hamming::{Decoded, WrongBit, by_syndrome, check_number, column_table, syndrome};
 
 // The two frames: broadcast, and individually addressed.
-#[derive(Drop)]
+#[derive(Clone, Copy)]
 pub enum Kind {
     Short,
     Long,
@@ -24,7 +25,7 @@ pub enum Kind {
 
 // What an encoder answers: the number of refusal, and the frame.
 #[repr(C)]
-#[derive(Drop)]
+#[derive(Clone, Copy)]
 pub struct Encoded {
     pub refusal: u8,
     pub number: u64,
@@ -32,7 +33,7 @@ pub struct Encoded {
 
 // The fields of a frame; in a short one all but the data are 0.
 #[repr(C)]
-#[derive(Drop)]
+#[derive(Clone, Copy)]
 pub struct Fields {
     pub address: u16,
     pub e: u8,
@@ -41,7 +42,7 @@ pub struct Fields {
 }
 
 // What a frame is judged to be before a receiver looks at its fields.
-#[derive(Drop)]
+#[derive(Clone, Copy)]
 pub enum Judged {
     StopZero,
     EvenSyndrome,
@@ -58,7 +59,7 @@ pub enum Judged {
 
 // What a decoder answers, in the paper's numbers.
 #[repr(C)]
-#[derive(Drop)]
+#[derive(Clone, Copy)]
 pub struct Answer {
     pub refusal: u8,
     pub verdict: u8,

@@ -2,6 +2,7 @@
 //
 // There is no state. A received word is two numbers, data and check number, and goes by value; a
 // table of columns is only read, and is lent.
+#![tactic(auto)]
 ghost use Rattle.std.specs.Prelude.{◌≡◌, cond, ◌<◌, ◌^◌, eqb};
 ghost use Rattle.std.specs.Int.Bits.{bit_xor};
 ghost use Rattle.hamming.specs.Columns.{column_table};
@@ -9,14 +10,14 @@ ghost use Rattle.hamming.specs.Code as code;
 ghost use Rattle.hamming.specs.Code.{in_use, check_number, first_equal, by_syndrome};
 
 // What the search for a column yields: the bit whose column it is, or none.
-#[derive(Drop)]
+#[derive(Clone, Copy)]
 pub enum Found {
     At(usize),
     Nothing,
 }
 
 // Which bit of a received word the decoder finds wrong.
-#[derive(Drop)]
+#[derive(Clone, Copy)]
 pub enum WrongBit {
     None,
     Check(usize),
@@ -25,7 +26,7 @@ pub enum WrongBit {
 
 // What the decoder of a word answers: the data, the corrected flag (set for a wrong check bit too)
 // and the wrong bit; or that the word can't be corrected.
-#[derive(Drop)]
+#[derive(Clone, Copy)]
 pub enum Decoded {
     Word {
         data: u32,

@@ -2,6 +2,7 @@
 // neither on the frame bits held nor on channel B. Every function takes any core and any trigger.
 //
 // The core goes by value, like the state that it belongs to.
+#![tactic(auto)]
 ghost use Rattle.std.specs.Prelude.{◌≡◌};
 ghost use Rattle.idle_clock.specs.IdleClock.{no_strobe, continued, started, bus_step, count_clock, idle_clock};
 ghost use Rattle.idle_clock.specs.AtRest.{at_rest, settled, rest_for};
@@ -9,7 +10,7 @@ ghost use Rattle.idle_clock.specs.AtRest.{at_rest, settled, rest_for};
 use receiver_state::{Clocked, Core, Counters, Sequence, no_outputs};
 
 // What the bus shows on a clock, and the sequence that is left.
-#[derive(Drop)]
+#[derive(Clone, Copy)]
 pub struct Bus {
     pub sequence: Sequence,
     pub strobe: u8,

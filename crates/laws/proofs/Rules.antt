@@ -1,18 +1,18 @@
 -- A definition is a chain of `cond`; the code has the same tests in the same order. `search` with one of these sets closes an exit of the code.
 -- Assumes nothing.
 use mathlib.Core.Path.{◌≡◌, refl, sym, ◌∙◌}
-use mathlib.Core.Bool.{Bool, true, false, not, cond, ◌&&◌, ◌||◌}
-use borrow.Author.Tests.{eq-eqb, ne_eqb, lt-ltb, le-ltb, le-leb, lt-leb, not-true, not-false}
+use mathlib.Core.Bool.{Bool, true, false, cond, ◌&&◌, ◌||◌}
+use borrow.Author.Tests.{eq-eqb, ne_eqb, lt-ltb, le-ltb, le-leb, lt-leb}
 
 -- a test on numbers, as the code makes it
 pub ruleset tests = (eq-eqb, ne_eqb, lt-ltb, le-ltb, le-leb, lt-leb)
 
--- a call that answered r, which its contract says is t, and the test `!r`
-pub denied : (r t : Bool) → r ≡ t → not r ≡ true → t ≡ false
-denied r t e n = sym e ∙ not-true r n
+-- a call that answered r, which its contract says is t, and the test `!r`: what is known of r where it passed, and where it did not
+pub denied : (r t : Bool) → r ≡ t → r ≡ false → t ≡ false
+denied r t e n = sym e ∙ n
 
-pub granted : (r t : Bool) → r ≡ t → not r ≡ false → t ≡ true
-granted r t e n = sym e ∙ not-false r n
+pub granted : (r t : Bool) → r ≡ t → r ≡ true → t ≡ true
+granted r t e n = sym e ∙ n
 
 -- the same with the test `r`
 pub said : (r t b : Bool) → r ≡ t → r ≡ b → t ≡ b

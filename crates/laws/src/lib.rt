@@ -1,1 +1,2 @@
 // Laws that belong to no one component. They are in specs/ and proofs/; there is no code.
+#![tactic(auto)]

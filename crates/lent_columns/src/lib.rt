@@ -2,6 +2,7 @@
 // frames encoded and decoded with them.
 //
 // There is no state. Columns are only read, and are lent.
+#![tactic(auto)]
 ghost use Rattle.std.specs.Prelude.{◌≡◌, [], ◌/◌, ◌%◌, ◌^◌, ◌<◌, eqb};
 ghost use Rattle.frame.specs.Numbers.{check_bits};
 ghost use Rattle.lent_columns.specs.Check.{first_bad, check_columns};
@@ -15,7 +16,7 @@ use frame::{
 
 // What the check of columns answers: the number of refusal, and the index of the first bad column.
 #[repr(C)]
-#[derive(Drop)]
+#[derive(Clone, Copy)]
 pub struct ColumnsAnswer {
     pub refusal: u8,
     pub index: u8,
@@ -23,7 +24,7 @@ pub struct ColumnsAnswer {
 
 // What an encoder answers that is lent columns.
 #[repr(C)]
-#[derive(Drop)]
+#[derive(Clone, Copy)]
 pub struct EncodedWithIndex {
     pub answer: Encoded,
     pub index: u8,
@@ -31,14 +32,14 @@ pub struct EncodedWithIndex {
 
 // What a decoder answers that is lent columns.
 #[repr(C)]
-#[derive(Drop)]
+#[derive(Clone, Copy)]
 pub struct DecodedWithIndex {
     pub answer: Answer,
     pub index: u8,
 }
 
 // A set of numbers below 128, a bit for each: those from 64 on are bits of `high`.
-#[derive(Drop)]
+#[derive(Clone, Copy)]
 pub struct NumberSet {
     pub low: u64,
     pub high: u64,

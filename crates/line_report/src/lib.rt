@@ -3,6 +3,7 @@
 //
 // The report's state goes by value, in and out: it is 72 bytes of plain data. A piece of input
 // is only read, and is lent; the text goes to the caller's own buffer, lent to be written.
+#![tactic(auto)]
 ghost use Rattle.std.specs.Prelude.{◌≡◌, ◌+◌, ◌<◌, ◌≤◌, length};
 ghost use Rattle.frame.specs.Columns.{columns_of};
 ghost use Rattle.whole_frame.specs.WholeFrame.{LeftWanting};
@@ -25,7 +26,7 @@ mod text;
 
 // The characters of a line so far, as far as they matter.
 #[repr(C)]
-#[derive(Drop)]
+#[derive(Clone, Copy)]
 pub struct LinePart {
     pub count: u8,
     pub characters: [u8; 11],
@@ -33,7 +34,7 @@ pub struct LinePart {
 
 // What is kept between two pieces of input.
 #[repr(C)]
-#[derive(Drop)]
+#[derive(Clone, Copy)]
 pub struct Report {
     pub receiver: Receiver,
     pub lines: u64,
@@ -43,7 +44,7 @@ pub struct Report {
 // What a call answers: the report, the bytes of input used, the bytes of the buffer written, and the
 // room that was wanted where its lack stopped the call.
 #[repr(C)]
-#[derive(Drop)]
+#[derive(Clone, Copy)]
 pub struct Reported {
     pub report: Report,
     pub used: usize,
@@ -52,7 +53,7 @@ pub struct Reported {
 }
 
 // What a line's end leaves: the report, and the position after its text in the buffer.
-#[derive(Drop)]
+#[derive(Clone, Copy)]
 struct Ended {
     report: Report,
     next: usize,

@@ -2,6 +2,7 @@
 //
 // The state goes by value, in and out: see `receiver_state`. Columns are only read, and are lent: the
 // public clock passes document 01's table down.
+#![tactic(auto)]
 ghost use Rattle.std.specs.Prelude.{◌≡◌};
 ghost use Rattle.hamming.specs.Code.{in_use};
 ghost use Rattle.frame.specs.Columns.{columns_for, columns_of};
@@ -15,7 +16,7 @@ use receiver_state::{Clocked, Held, Outputs, Receiver, no_outputs, well_formed};
 use verdicts::finish;
 
 #[repr(C)]
-#[derive(Drop)]
+#[derive(Clone, Copy)]
 pub struct ClockAnswer {
     pub refusal: u8,
     pub receiver: Receiver,

@@ -5,6 +5,7 @@
 // caller may keep any copy. Its parts are nested by what changes together. A field that "Well
 // formed" has no clause for has a type that is exactly as wide as document 01's range, so that the
 // test has the papers' clauses and no others.
+#![tactic(auto)]
 ghost use Rattle.std.specs.Prelude.{◌≡◌};
 ghost use Rattle.receiver_state.specs.State.{receiver, nothing_held, is_waiting, new_core, fresh_core, fresh_of, refused_fresh, fresh_answer};
 ghost use Rattle.receiver_state.specs.Shown.{no_outputs};
@@ -15,7 +16,7 @@ use form::{core_ok, held_ok};
 mod form;
 
 #[repr(C)]
-#[derive(Drop)]
+#[derive(Clone, Copy)]
 pub struct Ids {
     pub id: u16,
     pub i2c: u8,
@@ -23,7 +24,7 @@ pub struct Ids {
 
 // Registers 0 to 3, 20 and 21.
 #[repr(C)]
-#[derive(Drop)]
+#[derive(Clone, Copy)]
 pub struct Settings {
     pub fine1: u8,
     pub fine2: u8,
@@ -35,7 +36,7 @@ pub struct Settings {
 
 // The error counters, and bit 5 of the status.
 #[repr(C)]
-#[derive(Drop)]
+#[derive(Clone, Copy)]
 pub struct Errors {
     pub single: u16,
     pub double: u8,
@@ -43,7 +44,7 @@ pub struct Errors {
 }
 
 #[repr(C)]
-#[derive(Drop)]
+#[derive(Clone, Copy)]
 pub struct Counters {
     pub bunch: u16,
     pub event: u32,
@@ -51,7 +52,7 @@ pub struct Counters {
 
 // The words that a sequence has still to show, and the event number kept for them.
 #[repr(C)]
-#[derive(Drop)]
+#[derive(Clone, Copy)]
 pub struct Sequence {
     pub left: u8,
     pub event: u32,
@@ -59,7 +60,7 @@ pub struct Sequence {
 
 // All of a receiver but what it keeps of channel B.
 #[repr(C)]
-#[derive(Drop)]
+#[derive(Clone, Copy)]
 pub struct Core {
     pub ids: Ids,
     pub settings: Settings,
@@ -71,7 +72,7 @@ pub struct Core {
 // What is kept of channel B: the bits of an unfinished frame, the first received most significant; or
 // the ones still wanted after a frame with stop bit 0. While waiting, neither.
 #[repr(C)]
-#[derive(Drop)]
+#[derive(Clone, Copy)]
 pub struct Held {
     pub count: u8,
     pub wanted: u8,
@@ -79,14 +80,14 @@ pub struct Held {
 }
 
 #[repr(C)]
-#[derive(Drop)]
+#[derive(Clone, Copy)]
 pub struct Receiver {
     pub core: Core,
     pub held: Held,
 }
 
 #[repr(C)]
-#[derive(Drop)]
+#[derive(Clone, Copy)]
 pub struct FreshAnswer {
     pub refusal: u8,
     pub receiver: Receiver,
@@ -95,7 +96,7 @@ pub struct FreshAnswer {
 // What a clock shows: trigger output and missed flag, the bus, and the frame that it finished. In this
 // order there is no padding.
 #[repr(C)]
-#[derive(Drop)]
+#[derive(Clone, Copy)]
 pub struct Outputs {
     pub trigger: u8,
     pub missed: u8,
@@ -108,7 +109,7 @@ pub struct Outputs {
 }
 
 // What a clock leaves of the core, and what it shows.
-#[derive(Drop)]
+#[derive(Clone, Copy)]
 pub struct Clocked {
     pub core: Core,
     pub outputs: Outputs,

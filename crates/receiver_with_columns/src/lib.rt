@@ -5,6 +5,7 @@
 //
 // Refusal 2 comes before those of the columns. Yet the columns are checked first: what is called then
 // refuses by 2 itself, and a well-formed state is checked once.
+#![tactic(auto)]
 ghost use Rattle.std.specs.Prelude.{◌≡◌, cond, ◌/◌, ◌%◌, ◌^◌, ◌<◌, ◌≤◌};
 ghost use Rattle.hamming.specs.Code.{in_use};
 ghost use Rattle.frame.specs.Columns.{columns_for};
@@ -28,14 +29,14 @@ use whole_frame::kind_of;
 
 // What a clock answers that is lent columns.
 #[repr(C)]
-#[derive(Drop)]
+#[derive(Clone, Copy)]
 pub struct ClockWithIndex {
     pub answer: ClockAnswer,
     pub index: u8,
 }
 
 // What a block answers that is lent columns.
-#[derive(Drop)]
+#[derive(Clone, Copy)]
 pub struct BlockWithIndex {
     pub answer: BlockAnswer,
     pub index: u8,

@@ -2,6 +2,7 @@
 // checks and refusals. What a register holds, and what a write does, is in `register_map`.
 //
 // The state goes by value, in and out: see `receiver_state`.
+#![tactic(auto)]
 ghost use Rattle.std.specs.Prelude.{◌≡◌};
 ghost use Rattle.registers.specs.Access.{read_refusal, refused_read, read_answer, write_refusal, refused_write, write_answer};
 
@@ -9,14 +10,14 @@ use receiver_state::{Receiver, well_formed};
 use register_map::{config_wrong, in_map, read_only, register_byte, without_setting, write_byte};
 
 #[repr(C)]
-#[derive(Drop)]
+#[derive(Clone, Copy)]
 pub struct ReadAnswer {
     pub refusal: u8,
     pub byte: u8,
 }
 
 #[repr(C)]
-#[derive(Drop)]
+#[derive(Clone, Copy)]
 pub struct WriteAnswer {
     pub refusal: u8,
     pub receiver: Receiver,

@@ -2,6 +2,7 @@
 //
 // There is no state. Characters are only read, and are lent; the writer's buffer is the caller's
 // own, lent to be written.
+#![tactic(auto)]
 ghost use Rattle.std.specs.Prelude.{◌≡◌, true, ◌≤◌, ◌<◌, ◌++◌, length, drop};
 ghost use Rattle.stored_line.specs.declared.StoredLine.TheVariants.{Frame};
 ghost use Rattle.stored_line.specs.Digits.{between, digit_value, digit_character, hex_digits, hex_answer, hex_written};
@@ -11,7 +12,7 @@ ghost use Rattle.stored_line.specs.Write.{write_done, write_line};
 use frame::{Kind, is_frame};
 
 // What the reader answers: a frame, or the number of refusal.
-#[derive(Drop)]
+#[derive(Clone, Copy)]
 pub enum StoredLine {
     Frame { kind: Kind, number: u64 },
     Refused { refusal: u8 },
@@ -19,7 +20,7 @@ pub enum StoredLine {
 
 // The same in the paper's numbers; the kind is the format bit.
 #[repr(C)]
-#[derive(Drop)]
+#[derive(Clone, Copy)]
 pub struct LineAnswer {
     pub refusal: u8,
     pub kind: u8,
@@ -28,14 +29,14 @@ pub struct LineAnswer {
 
 // What the writer answers: the number of refusal, and how many bytes were written.
 #[repr(C)]
-#[derive(Drop)]
+#[derive(Clone, Copy)]
 pub struct Written {
     pub refusal: u8,
     pub size: u8,
 }
 
 // What characters spell in hexadecimal, unless one of them is no digit.
-#[derive(Drop)]
+#[derive(Clone, Copy)]
 enum Hex {
     Number(u64),
     NoDigit,

@@ -4,6 +4,7 @@
 // The state goes by value, as for a single clock, and a record does too. A block and columns are only
 // read, and are lent by `&`; records go to the caller's own buffer, lent by `&mut`. The second call takes the buffer
 // by `&`, and what comes back is a part of it: nothing is copied, and no number can change.
+#![tactic(auto)]
 ghost use Rattle.std.specs.Prelude.{◌≡◌};
 ghost use Rattle.hamming.specs.Code.{in_use};
 ghost use Rattle.frame.specs.Columns.{columns_for, columns_of};
@@ -19,7 +20,7 @@ mod clocks;
 mod records;
 
 // The record of one clock of a block.
-#[derive(Drop)]
+#[derive(Clone, Copy)]
 pub struct TraceRecord {
     pub place: u32,
     pub bunch: u32,
@@ -29,7 +30,7 @@ pub struct TraceRecord {
 }
 
 // What a block answers: the number of refusal, the state, and how many records were written.
-#[derive(Drop)]
+#[derive(Clone, Copy)]
 pub struct BlockAnswer {
     pub refusal: u8,
     pub receiver: Receiver,
@@ -37,14 +38,14 @@ pub struct BlockAnswer {
 }
 
 // A block in the course of its clocks: the receiver, and the records written so far.
-#[derive(Drop)]
+#[derive(Clone, Copy)]
 pub struct Running {
     pub receiver: Receiver,
     pub records: usize,
 }
 
 // How far a block has come: what its clocks left so far, and the place of the next one.
-#[derive(Drop)]
+#[derive(Clone, Copy)]
 pub struct Progress {
     pub run: Running,
     pub next: usize,

@@ -1,6 +1,7 @@
 // Document 01, "Stored lines": the program `ttclines`. It reads standard input, hands each piece to
 // `line_report`, and writes what that reports. The contract of `report_whole` says that one call uses
 // up the piece that it is given.
+#![tactic(auto)]
 ghost use Rattle.std.specs.Prelude.{◌≡◌, ◌+◌, ◌*◌, ◌≤◌, length};
 ghost use Rattle.line_report.specs.Report.{longest_line, longest_end};
 
@@ -10,7 +11,7 @@ use line_report::{
 
 // What is kept between two reads: the report, how much of the output buffer is filled, whether the
 // input may go on, and what failed.
-#[derive(Drop)]
+#[derive(Clone, Copy)]
 pub struct Progress {
     pub report: Report,
     pub filled: usize,
@@ -20,7 +21,7 @@ pub struct Progress {
 }
 
 // How much of the output buffer is filled after it was written out, if it had to be.
-#[derive(Drop)]
+#[derive(Clone, Copy)]
 pub struct Room {
     pub filled: usize,
     pub failed: bool,

@@ -1,5 +1,6 @@
 // The C interface: one exported function for each entry point, with its full contract.
 // include/ttcrx.h declares them. An answer is a struct or a number, by value.
+#![tactic(auto)]
 ghost use Rattle.std.specs.Prelude.{◌≡◌, cond};
 ghost use Rattle.hamming.specs.Columns.{short_columns, long_columns};
 ghost use Rattle.frame.specs.declared.Kind.TheVariants.{Short, Long};
@@ -46,7 +47,7 @@ pub const VERSION: u32 = 4;
 
 // What a block answers a caller who lends the receiver.
 #[repr(C)]
-#[derive(Drop)]
+#[derive(Clone, Copy)]
 pub struct BlockOutcome {
     pub refusal: u8,
     pub records: usize,
@@ -54,7 +55,7 @@ pub struct BlockOutcome {
 
 // The same for a caller who also lends columns.
 #[repr(C)]
-#[derive(Drop)]
+#[derive(Clone, Copy)]
 pub struct OutcomeWithIndex {
     pub answer: BlockOutcome,
     pub index: u8,

@@ -3,6 +3,7 @@
 // and any core.
 //
 // The core and the outputs go by value, like the state that they belong to.
+#![tactic(auto)]
 ghost use Rattle.std.specs.Prelude.{◌≡◌, cond, eqb};
 ghost use Rattle.verdicts.specs.Table.{up_to, double_up, cleared_by, foreign, long_row, row_verdict, row_effect, row, good_row, table_row};
 ghost use Rattle.verdicts.specs.Finished.{count_errors, finished};
@@ -12,7 +13,7 @@ use receiver_state::{Clocked, Core, Errors, fresh_core};
 use register_map::{clear_bunch, clear_event, store_byte, without_setting};
 
 // The rows of a good long frame.
-#[derive(Drop)]
+#[derive(Clone, Copy)]
 pub enum LongRow {
     Foreign,
     Outside,
@@ -23,7 +24,7 @@ pub enum LongRow {
 }
 
 // A row of the table of verdicts: the verdict, and the core after the effect.
-#[derive(Drop)]
+#[derive(Clone, Copy)]
 pub struct Row {
     pub verdict: u8,
     pub core: Core,
