@@ -12,14 +12,14 @@ use Rattle.verdicts.specs.Table.{row_effect}
 use Rattle.verdicts.specs.contracts.LongRow as row
 use Rattle.verdicts.proofs.row_effect.Goals as goal
 
--- the rows of the last arm, by their places in the enum
-no_effect : (chosen : LongRow) (fields : Fields) (core : Core) → OneOf (0 ∷ 1 ∷ 2 ∷ 5 ∷ []) (tag_of row.the_type chosen) → core ≡ row_effect chosen fields core
-no_effect Foreign fields core k = refl
-no_effect Outside fields core k = refl
-no_effect WithoutSetting fields core k = refl
-no_effect Store fields core k = absurd (miss (0 ∷ 1 ∷ 2 ∷ 5 ∷ []) 3 tt k)
-no_effect Reset fields core k = absurd (miss (0 ∷ 1 ∷ 2 ∷ 5 ∷ []) 4 tt k)
-no_effect Other fields core k = refl
+-- the rows of the last arm: those that are neither stored nor a RESET
+no_effect : (chosen : LongRow) (fields : Fields) (core : Core) → (chosen ≡ Store → ⊥) → (chosen ≡ Reset → ⊥) → core ≡ row_effect chosen fields core
+no_effect Foreign fields core s r = refl
+no_effect Outside fields core s r = refl
+no_effect WithoutSetting fields core s r = refl
+no_effect Store fields core s r = absurd (s refl)
+no_effect Reset fields core s r = absurd (r refl)
+no_effect Other fields core s r = refl
 
 pub returns-in-Store : goal.returns-in-Store
 returns-in-Store c = rw c.in-Store.is c.store_byte.ensures
@@ -28,4 +28,4 @@ pub returns-in-Reset : goal.returns-in-Reset
 returns-in-Reset c = rw c.in-Reset.is c.fresh_core.ensures
 
 pub returns-in_default : goal.returns-in_default
-returns-in_default c = let given = c.args in no_effect given.chosen given.fields given.core c.in_default.keys3
+returns-in_default c = let given = c.args in no_effect given.chosen given.fields given.core c.in_default.not-Store c.in_default.not-Reset
