@@ -1,0 +1,22 @@
+-- `line_report::part::with_characters` meets its contract. The invariant: the characters still to come, behind those taken, are all of them. Assumes nothing.
+use Rattle.std.proofs.Common.{◌≡◌, ℕ, suc, ◌+◌, ◌-◌, ◌<◌, ◌≤◌, List, length, get_or, drop, sym, refl, ap, ◌∙◌, add-one, arith, drop_of_length-le, drop-cons, rules}
+use Rattle.line_report.specs.declared.LinePart.{LinePart}
+use Rattle.line_report.specs.Report.{with_character, with_characters}
+use Rattle.line_report.proofs.part.with_characters.Goals as goal
+
+turn_more : (part next : LinePart) (characters : List ℕ) (at : ℕ) → at < length characters → next ≡ with_character part (get_or characters at 0)
+    → with_characters next (drop (at + 1) characters) ≡ with_characters part (drop at characters)
+unfolding with_characters
+turn_more part next characters at h e = rw (add-one, drop-cons characters at 0, e) refl
+
+pub loop-at-init : goal.loop-at-init
+loop-at-init c = (search rules, refl)
+
+pub loop-at-preserved : goal.loop-at-preserved
+loop-at-preserved c =
+    let turn = c.loop-at in
+    (search rules, turn_more _ _ _ _ c.loop-at-test.true c.with_character-next.ensures ∙ turn.invariant.1)
+
+pub returns : goal.returns
+unfolding with_characters
+returns c = ap (with_characters c.loop-at.next) (sym (drop_of_length-le _ c.loop-at-test.false)) ∙ c.loop-at.invariant.1

@@ -1,0 +1,18 @@
+-- `line_report::text::put_refusal` meets its contract: the mark, then a field. Assumes nothing.
+use Rattle.std.proofs.Common.{[], ◌∷◌, ◌++◌, rules}
+use Rattle.line_report.specs.Text.{decimal, refusal_text}
+use Rattle.line_report.proofs.Write.{then_text, room_first, room_then, room_one}
+use Rattle.line_report.proofs.text.put_refusal.Goals as goal
+
+pub put-after_mark-requires : goal.put-after_mark-requires
+unfolding refusal_text
+put-after_mark-requires c = room_one _ 33 (32 ∷ decimal c.args.refusal) c.requires
+
+pub put_field-requires : goal.put_field-requires
+unfolding refusal_text
+put_field-requires c =
+    room_then (33 ∷ []) (32 ∷ decimal c.args.refusal) c.requires c.put-after_mark.ensures
+
+pub returns : goal.returns
+unfolding refusal_text
+returns c = then_text (33 ∷ []) _ c.put-after_mark.ensures c.put_field.ensures
