@@ -1,1 +1,1 @@
-mod Walk
+mod Kept
