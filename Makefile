@@ -6,7 +6,7 @@
 # make compare: library and program against the independent model of host/, called from Rust, C and C++; the examples of README.md and
 # docs/USING.md; and the tests against wrong libraries, each of which they must find.
 # make bench: measures program and library beside the independent model, and prints the tables.
-# make layout: says which Rattle, antt and Rust files are not in the layout. make fmt: puts them in it.
+# make layout: says which Rust files are not in the layout (rt ci says it of the Rattle and antt files). make fmt: puts all files in it.
 .PHONY: library demo compare bench layout test fmt
 
 ARCHIVE = target/staticlib/libttcrx.a
@@ -14,9 +14,17 @@ PROGRAM = target/bin/ttclines
 WARNINGS = -Wall -Wextra -Wpedantic -Werror
 HOST = --quiet --offline --locked --manifest-path host/Cargo.toml
 
-library:
-	rt check ttclines
-	rt staticlib ttcrx
+library: $(PROGRAM)
+	cd crates/ttcrx && rt lib
+	@mkdir -p $(dir $(ARCHIVE))
+	cp crates/ttcrx/out/libttcrx.a $(ARCHIVE)
+
+# rt run proves and builds the program, and runs it, here on no input.
+.PHONY: $(PROGRAM)
+$(PROGRAM):
+	cd crates/ttclines && rt run < /dev/null
+	@mkdir -p $(dir $(PROGRAM))
+	cp crates/ttclines/out/ttclines $(PROGRAM)
 
 # What a printed line says, in words: for each refusal of a line, each verdict, and the end.
 IN_WORDS = \
@@ -38,8 +46,7 @@ IN_WORDS = \
 	-e 's/^verdict 9/fixed bit 0: dropped, a double error/' \
 	-e 's/^end .*/single errors, double errors, events, bunch number/'
 
-demo:
-	rt check ttclines
+demo: $(PROGRAM)
 	@$(PROGRAM) < docs/example.txt > target/demo.txt
 	@echo
 	@echo 'Left: docs/example.txt, one frame a line. Middle: what ttclines prints of each line, the number of the line and then verdict, corrected'
@@ -75,22 +82,23 @@ bench: library
 	cargo run --release $(HOST)
 
 layout:
-	rt fmt --check
 	cargo fmt --check --manifest-path host/Cargo.toml
 	cargo fmt --check --manifest-path host/wrong/Cargo.toml
 
-# rt ci removes target/, so the comparison comes after it and builds the library from the crates that it has just proved. The last line of
-# rt ci, 'N passed, M failed', is kept back in .ci/log, and printed once the comparison has passed too. A pipe has the status of its last
-# command, so the status of rt ci goes to .ci/status: all has passed if it is 0 and the last line has no failure.
+# rt ci proves everything, tries the must-fail edits, and refuses files that are not in the layout; the comparison comes after it. The last
+# line of rt ci, 'N passed, M failed', is kept back in .ci/log, and printed once the comparison has passed too. A pipe has the status of its
+# last command, so the status of rt ci goes to .ci/status: all has passed if it is 0, the last line has no failure, and the line `rt: ok`
+# has no bad edit.
 test: layout
 	@rm -f .ci/log .ci/status
 	{ rt ci; echo $$? > .ci/status; } | tee .ci/log | sed -u '$$d'
 	@echo 0 | cmp -s - .ci/status || { echo "rt ci ended with status $$(cat .ci/status)"; exit 1; }
 	@tail -n 1 .ci/log | grep -q ' passed, 0 failed$$'
+	@! grep '^rt: ok.*, [0-9]* bad' .ci/log
 	$(MAKE) --no-print-directory compare
 	@tail -n 1 .ci/log
 
 fmt:
-	rt fmt
+	@set -e; for crate in crates/*/; do (cd $$crate && rt fmt); done
 	cargo fmt --manifest-path host/Cargo.toml
 	cargo fmt --manifest-path host/wrong/Cargo.toml

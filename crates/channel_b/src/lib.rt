@@ -2,6 +2,7 @@
 // finished frame leaves held. No check number is computed here: that waits for a whole frame. Every
 // function takes any value held and any bit.
 #![tactic(auto)]
+
 ghost use Rattle.std.specs.Prelude.{◌≡◌, ◌+◌, ◌-◌, ◌*◌, ◌%◌, ◌^◌};
 ghost use Rattle.receiver_state.specs.State.{wanting_ones};
 ghost use Rattle.channel_b.specs.TakeBit.{frame_or_part, between_frames, take_bit, held_after};

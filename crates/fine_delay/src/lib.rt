@@ -2,6 +2,7 @@
 //
 // There is no state: a setting or a byte goes by value, and so does the answer.
 #![tactic(auto)]
+
 ghost use Rattle.std.specs.Prelude.{◌≡◌, pos};
 ghost use Rattle.laws.specs.Remainder.{◌%ℤ◌};
 ghost use Rattle.fine_delay.specs.Delay.{byte_of, has_setting, setting_to_byte, byte_to_setting};

@@ -5,7 +5,7 @@ use Prim.Native.Nat.{ℕ, zero, suc, ◌+◌, ◌-◌, ◌/◌, ◌%◌, ◌^◌
 use native.Mathlib.Omega.{arith}
 use borrow.Author.Tests.{ne_eqb}
 use lib.Bits.{bit_xor, xor_zero_r}
-use lib.ListN.{length, get_or, set}
+use lib.ListN.{length}
 use Rattle.laws.proofs.Xor.{xor_half, xor_low, xor_back}
 use Rattle.laws.proofs.Powers.{pow_half, pow_even}
 use Rattle.hamming.specs.declared.WrongBit.{WrongBit}
@@ -14,7 +14,7 @@ use Rattle.hamming.specs.Correction.{NoneOrProtected}
 use Rattle.frame.specs.declared.Kind.{Kind}
 use Rattle.frame.specs.Numbers.{data_bits, check_bits, frame_bits}
 use Rattle.frame.specs.Bits.{bits_of}
-use Rattle.frame.specs.Place.{places, place_in, flip_at, flipped_in, InOrderSent}
+use Rattle.frame.specs.Place.{place_in, flip_at, flipped_in, InOrderSent}
 use Rattle.frame.specs.Frames.{flip_protected, FlipsAtPlace}
 use Rattle.frame.proofs.Bits.{bits_law}
 

@@ -4,6 +4,7 @@
 // There is no state: fields, words and frame numbers go by value. Columns are only read, and are
 // lent: below the public encoders and decoders, every function that needs columns takes them.
 #![tactic(auto)]
+
 ghost use Rattle.std.specs.Prelude.{◌≡◌, cond, ◌-◌, ◌%◌, ◌^◌};
 ghost use Rattle.hamming.specs.Code.{in_use, by_syndrome};
 ghost use Rattle.hamming.specs.Columns.{short_columns, long_columns};

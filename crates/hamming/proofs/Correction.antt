@@ -22,7 +22,7 @@ use Rattle.hamming.specs.declared.WrongBit.TheVariants.{None, Check, Data}
 use Rattle.hamming.specs.declared.Decoded.{Decoded}
 use Rattle.hamming.specs.declared.Decoded.TheVariants.{Word, Uncorrectable}
 use Rattle.hamming.specs.Code.{check_number, syndrome, first_equal, by_column, by_syndrome, decode_word}
-use Rattle.hamming.specs.Correction.{Coded, encoded, syndrome_of, decoded, flip, Protected, NoneOrProtected, flip_each, EachProtected, flag_of, GoodColumns, NoneWithin, OneFlip, TwoFlips, FlipsParity, AnswerWithin, UncorrectableExactly, DataFits, CorrectionTheorem}
+use Rattle.hamming.specs.Correction.{Coded, encoded, syndrome_of, decoded, flip, Protected, NoneOrProtected, flip_each, flag_of, GoodColumns, NoneWithin, OneFlip, TwoFlips, FlipsParity, AnswerWithin, UncorrectableExactly, DataFits, CorrectionTheorem}
 use Rattle.hamming.proofs.Linear.{check_xor, check_bit, check_fits}
 use Rattle.hamming.proofs.Search.{Searched, at, none, searched}
 

@@ -1,8 +1,8 @@
 -- Places and protected bits correspond one to one. Assumes nothing.
 use mathlib.Core.Path.{◌≡◌, refl, sym, ap, ◌∙◌}
 use mathlib.Core.Logic.{◌↔◌}
-use mathlib.Core.Bool.{false, cond}
-use Prim.Native.Nat.{ℕ, ◌+◌, ◌-◌, ◌≤◌, ◌<◌}
+use mathlib.Core.Bool.{false}
+use Prim.Native.Nat.{ℕ, ◌+◌, ◌≤◌, ◌<◌}
 use native.Mathlib.Omega.{arith}
 use borrow.Author.Tests.{ne_eqb, eqb-true, lt-ltb, le-ltb, ltb-true, ltb-false}
 use lib.Dec.{eqb, ltb}
@@ -10,7 +10,7 @@ use Rattle.laws.proofs.Rules.{picked_by}
 use Rattle.hamming.specs.declared.WrongBit.{WrongBit}
 use Rattle.hamming.specs.declared.WrongBit.TheVariants.{None, Check, Data}
 use Rattle.hamming.specs.Correction.{Protected, NoneOrProtected, flag_of}
-use Rattle.hamming.specs.Place.{place_of, bit_at, PlaceLaws, PlaceTheorem}
+use Rattle.hamming.specs.Place.{place_of, bit_at, PlaceTheorem}
 
 module _ (n w : ℕ) where
   first : (p : WrongBit) → Protected n w p → 1 ≤ place_of n w p

@@ -3,6 +3,7 @@
 // There is no state. A received word is two numbers, data and check number, and goes by value; a
 // table of columns is only read, and is lent.
 #![tactic(auto)]
+
 ghost use Rattle.std.specs.Prelude.{◌≡◌, cond, ◌<◌, ◌^◌, eqb};
 ghost use Rattle.std.specs.Int.Bits.{bit_xor};
 ghost use Rattle.hamming.specs.Columns.{column_table};

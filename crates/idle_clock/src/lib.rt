@@ -3,6 +3,7 @@
 //
 // The core goes by value, like the state that it belongs to.
 #![tactic(auto)]
+
 ghost use Rattle.std.specs.Prelude.{◌≡◌};
 ghost use Rattle.idle_clock.specs.IdleClock.{no_strobe, continued, started, bus_step, count_clock, idle_clock};
 ghost use Rattle.idle_clock.specs.AtRest.{at_rest, settled, rest_for};

@@ -1,26 +1,24 @@
 -- What the check of lent columns says of them, from what it says of each group. Assumes nothing.
 use mathlib.Core.Path.{◌≡◌, refl, sym, ap, subst, ◌∙◌}
-use mathlib.Core.Logic.{◌≢◌, ◌↔◌}
-use mathlib.Core.Bool.{Bool, true, false, false≢true, cond}
+use mathlib.Core.Logic.{◌≢◌}
+use mathlib.Core.Bool.{false≢true, cond}
 use mathlib.Core.List.{List, []}
-use Prim.Native.Nat.{ℕ, ◌+◌, ◌-◌, ◌%◌, ◌^◌, ◌<◌, ◌≤◌}
+use Prim.Native.Nat.{ℕ, ◌+◌, ◌-◌, ◌<◌, ◌≤◌}
 use native.Mathlib.Nat.{zero-add}
 use native.Mathlib.Omega.{arith}
-use borrow.Author.Tests.{ltb-true, ltb-false, lt-ltb, le-ltb, eqb-true, eqb-false, eq-eqb, ne_eqb}
-use lib.Dec.{eqb, ltb, lit≤}
+use borrow.Author.Tests.{ltb-true, ltb-false, lt-ltb, le-ltb, eqb-true, eqb-false}
+use lib.Dec.{eqb, ltb}
 use lib.Count.{ones}
-use lib.ListN.{length, get_or, take, drop, length-drop}
+use lib.ListN.{length, get_or, drop, length-drop}
 use lib.Seq.{length-take-le, get_or-take, get_or-drop}
 use Rattle.laws.specs.OneOf.{one_of}
 use Rattle.laws.proofs.Rules.{by_test, picked_by}
 use Rattle.hamming.specs.Correction.{GoodColumns}
-use Rattle.frame.specs.declared.Kind.{Kind}
 use Rattle.frame.specs.declared.Kind.TheVariants.{Short, Long}
-use Rattle.frame.specs.Numbers.{check_bits, data_bits}
 use Rattle.frame.specs.Columns.{GoodTables}
 use Rattle.lent_columns.specs.declared.ColumnsAnswer.{ColumnsAnswer}
-use Rattle.lent_columns.specs.Check.{table_length, lent_short, lent_long, lent_columns, first_bad, columns_answer, check_columns}
-use Rattle.lent_columns.specs.Laws.{group_start, group_width, BadColumn, even, few, wide, equal, FirstBad, Passes, CheckLaws, CheckTheorem}
+use Rattle.lent_columns.specs.Check.{table_length, lent_short, lent_long, lent_columns, columns_answer, check_columns}
+use Rattle.lent_columns.specs.Laws.{group_start, group_width, BadColumn, even, few, wide, equal, FirstBad, CheckTheorem}
 use Rattle.lent_columns.proofs.Groups as groups
 use Rattle.lent_columns.proofs.Groups.{GoodAt, BadAt, Group, all, bad, group, good_columns}
 

@@ -2,11 +2,11 @@
 use mathlib.Core.Path.{◌≡◌, refl, sym, ap, ◌∙◌}
 use mathlib.Core.Bool.{Bool, true, false, false≢true, cond, not, ◌&&◌}
 use mathlib.Core.List.{List, [], ◌∷◌}
-use Prim.Native.Nat.{ℕ, zero, suc, ◌+◌, ◌-◌, ◌*◌, ◌/◌, ◌%◌, ◌^◌, ◌<◌, ◌≤◌}
+use Prim.Native.Nat.{ℕ, zero, suc, ◌+◌, ◌-◌, ◌/◌, ◌%◌, ◌^◌, ◌≤◌}
 use native.Mathlib.Omega.{arith}
 use native.Mathlib.Nat.{one-mul, zero-div}
-use borrow.Author.Tests.{ltb-true, ltb-false, eqb-true, eq-eqb, ne_eqb, lt-ltb, le-ltb}
-use lib.Dec.{eqb, ltb, leb, lit≤}
+use borrow.Author.Tests.{ltb-true, ltb-false, eqb-true, eq-eqb, le-ltb}
+use lib.Dec.{eqb, ltb, leb}
 use lib.Bits.{bit_xor, xor_shr}
 use lib.Count.{ones}
 use lib.Pow.{shl-shr, shr-shr}
@@ -21,7 +21,7 @@ use Rattle.frame.specs.declared.Kind.TheVariants.{Short, Long}
 use Rattle.frame.specs.Numbers.{check_bits}
 use Rattle.lent_columns.specs.declared.NumberSet.{NumberSet}
 use Rattle.lent_columns.specs.Check.{column_tests}
-use Rattle.lent_columns.specs.NumberSets.{number_set, bit_is_1, is_in, without, good_numbers}
+use Rattle.lent_columns.specs.NumberSets.{bit_is_1, is_in, without, good_numbers}
 
 -- ---- one bit of a number flipped
 

@@ -1,13 +1,12 @@
 -- The parts of a lent table that are lent on. Assumes nothing.
 use mathlib.Core.Path.{◌≡◌, ap, ◌∙◌}
 use mathlib.Core.List.{List}
-use Prim.Native.Nat.{ℕ, ◌≤◌}
+use Prim.Native.Nat.{ℕ}
 use native.Mathlib.Omega.{arith}
-use lib.ListN.{length, take, drop, length-take}
+use lib.ListN.{take, drop, length-take}
 use lib.Seq.{take_all, take-take}
 use lib.Dec.{lit≤}
 use Rattle.hamming.specs.Code.{in_use}
-use Rattle.frame.specs.declared.Kind.{Kind}
 use Rattle.frame.specs.Columns.{columns_for}
 use Rattle.lent_columns.specs.Check.{lent_short, lent_long, lent_columns}
 

@@ -3,6 +3,7 @@
 //
 // There is no state. Columns are only read, and are lent.
 #![tactic(auto)]
+
 ghost use Rattle.std.specs.Prelude.{◌≡◌, [], ◌/◌, ◌%◌, ◌^◌, ◌<◌, eqb};
 ghost use Rattle.frame.specs.Numbers.{check_bits};
 ghost use Rattle.lent_columns.specs.Check.{first_bad, check_columns};

@@ -6,7 +6,6 @@ use Prim.Native.Nat.{◌<◌, ◌≤◌}
 use native.Mathlib.Omega.{arith}
 use borrow.Author.Tests.{eq-eqb, eqb-true, lt-ltb, ltb-true, ltb-false, le-leb, leb-true}
 use lib.Dec.{eqb, ltb}
-use Rattle.laws.specs.Tests.{every}
 use Rattle.laws.proofs.Tests.{every→passed, passed→every}
 use Rattle.receiver_state.specs.declared.Ids.{Ids}
 use Rattle.receiver_state.specs.declared.Settings.{Settings}

@@ -6,6 +6,7 @@
 // formed" has no clause for has a type that is exactly as wide as document 01's range, so that the
 // test has the papers' clauses and no others.
 #![tactic(auto)]
+
 ghost use Rattle.std.specs.Prelude.{◌≡◌};
 ghost use Rattle.receiver_state.specs.State.{receiver, nothing_held, is_waiting, new_core, fresh_core, fresh_of, refused_fresh, fresh_answer};
 ghost use Rattle.receiver_state.specs.Shown.{no_outputs};

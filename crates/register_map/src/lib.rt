@@ -4,6 +4,7 @@
 //
 // The core goes by value, like the state that it belongs to.
 #![tactic(auto)]
+
 ghost use Rattle.std.specs.Prelude.{◌≡◌};
 ghost use Rattle.register_map.specs.Map.{in_map, register_byte, read_only, without_setting, config_wrong};
 ghost use Rattle.register_map.specs.Change.{store_byte, set_config2, set_config3, clear_single, clear_double, clear_bunch, clear_event, after_write};

@@ -3,6 +3,7 @@
 //
 // The state goes by value, in and out: see `receiver_state`.
 #![tactic(auto)]
+
 ghost use Rattle.std.specs.Prelude.{◌≡◌};
 ghost use Rattle.registers.specs.Access.{read_refusal, refused_read, read_answer, write_refusal, refused_write, write_answer};
 

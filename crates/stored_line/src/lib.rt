@@ -3,6 +3,7 @@
 // There is no state. Characters are only read, and are lent; the writer's buffer is the caller's
 // own, lent to be written.
 #![tactic(auto)]
+
 ghost use Rattle.std.specs.Prelude.{◌≡◌, true, ◌≤◌, ◌<◌, ◌++◌, length, drop};
 ghost use Rattle.stored_line.specs.declared.StoredLine.TheVariants.{Frame};
 ghost use Rattle.stored_line.specs.Digits.{between, digit_value, digit_character, hex_digits, hex_answer, hex_written};

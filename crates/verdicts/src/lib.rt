@@ -4,6 +4,7 @@
 //
 // The core and the outputs go by value, like the state that they belong to.
 #![tactic(auto)]
+
 ghost use Rattle.std.specs.Prelude.{◌≡◌, cond, eqb};
 ghost use Rattle.verdicts.specs.Table.{up_to, double_up, cleared_by, foreign, long_row, row_verdict, row_effect, row, good_row, table_row};
 ghost use Rattle.verdicts.specs.Finished.{count_errors, finished};

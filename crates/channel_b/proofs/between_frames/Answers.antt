@@ -1,7 +1,6 @@
 -- `channel_b::between_frames` meets its contract: at each exit the tests that led there pick the same row of the definition. Assumes nothing.
 use Rattle.laws.proofs.Rules.{picks}
 use Rattle.channel_b.specs.TakeBit.{between_frames}
-use Rattle.std.proofs.Common.{rules}
 use Rattle.channel_b.proofs.between_frames.Goals as goal
 
 pub returns-then-wanted-eq0 : goal.returns-then-wanted-eq0

@@ -1,7 +1,6 @@
 -- `channel_b::take_bit` meets its contract: at each exit the tests that led there pick the same row of the definition. Assumes nothing.
 use Rattle.laws.proofs.Rules.{picks}
 use Rattle.channel_b.specs.TakeBit.{take_bit}
-use Rattle.std.proofs.Common.{rules}
 use Rattle.channel_b.proofs.take_bit.Goals as goal
 
 pub returns-then-held-eq0 : goal.returns-then-held-eq0

@@ -1,5 +1,5 @@
 -- `channel_b::take_ones` meets its contract: with as many ones as are wanted, or more, none are left. Assumes nothing.
-use Rattle.std.proofs.Common.{◌≡◌, ℕ, ◌-◌, ◌≤◌, ap, ◌∙◌, arith, rules}
+use Rattle.std.proofs.Common.{◌≡◌, ℕ, ◌-◌, ◌≤◌, ap, ◌∙◌, arith}
 use Rattle.receiver_state.specs.State.{wanting_ones}
 use Rattle.channel_b.proofs.take_ones.Goals as goal
 

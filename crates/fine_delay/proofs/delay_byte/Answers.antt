@@ -1,7 +1,6 @@
 -- `fine_delay::delay_byte` meets its contract: one test, then the byte by the rule. Assumes nothing.
 use Prim.Native.Nat.{◌<◌}
 use native.Mathlib.Omega.{arith}
-use borrow.Author.Rules.{rules}
 use borrow.Author.Tests.{le-ltb}
 use Rattle.laws.proofs.Rules.{tests}
 use Rattle.fine_delay.specs.Delay.{setting_to_byte}

@@ -1,5 +1,4 @@
 -- `fine_delay::delay_setting` meets its contract: one test, then the arithmetic of the definition. Assumes nothing.
-use borrow.Author.Rules.{rules}
 use Rattle.laws.proofs.Rules.{picks}
 use Rattle.fine_delay.specs.Delay.{setting_of, byte_to_setting}
 use Rattle.fine_delay.proofs.delay_setting.Goals as goal

@@ -1,5 +1,4 @@
 -- `frame::answer_to` meets its contract: each arm knows its case. Assumes nothing.
-use borrow.Author.Rules.{rules}
 use Rattle.frame.proofs.answer_to.Goals as goal
 
 pub returns-in-StopZero : goal.returns-in-StopZero

@@ -1,5 +1,4 @@
 -- `frame::check_bits` meets its contract: each arm knows its kind. Assumes nothing.
-use borrow.Author.Rules.{rules}
 use Rattle.frame.proofs.check_bits.Goals as goal
 
 pub returns-in-Short : goal.returns-in-Short

@@ -1,5 +1,4 @@
 -- `frame::decode_finished` meets its contract: each arm takes the columns of its kind. Assumes nothing.
-use borrow.Author.Rules.{rules}
 use Rattle.frame.specs.Decode.{finished_answer}
 use Rattle.frame.proofs.decode_finished.Goals as goal
 

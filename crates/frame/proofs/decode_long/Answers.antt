@@ -1,5 +1,4 @@
 -- `frame::decode_long` meets its contract: by the test of refusal 12; the columns lent are the whole table. Assumes nothing.
-use borrow.Author.Rules.{rules}
 use Rattle.laws.proofs.Rules.{denied, granted}
 use Rattle.frame.specs.Decode.{decode_frame}
 use Rattle.frame.proofs.decode_long.Goals as goal

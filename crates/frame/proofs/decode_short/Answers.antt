@@ -1,5 +1,4 @@
 -- `frame::decode_short` meets its contract: by the test of refusal 12; the columns lent are the first eight of the table. Assumes nothing.
-use borrow.Author.Rules.{rules}
 use Rattle.laws.proofs.Rules.{denied, granted}
 use Rattle.frame.specs.Decode.{decode_frame}
 use Rattle.frame.proofs.decode_short.Goals as goal

@@ -1,5 +1,4 @@
 -- `frame::encode_short` meets its contract: the columns lent are the first eight of the table. Assumes nothing.
-use borrow.Author.Rules.{rules}
 use Rattle.frame.proofs.encode_short.Goals as goal
 
 pub returns : goal.returns

@@ -1,5 +1,4 @@
 -- `frame::encode_word` meets its contract: each arm knows its kind; the check number is what the call promises. Assumes nothing.
-use borrow.Author.Rules.{rules}
 use native.Mathlib.Omega.{arith}
 use Rattle.frame.proofs.encode_word.Goals as goal
 

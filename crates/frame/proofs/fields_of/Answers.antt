@@ -1,5 +1,4 @@
 -- `frame::fields_of` meets its contract: each arm knows its kind. Assumes nothing.
-use borrow.Author.Rules.{rules}
 use Rattle.frame.proofs.fields_of.Goals as goal
 
 pub returns-in-Short : goal.returns-in-Short

@@ -1,5 +1,4 @@
 -- `frame::fixed_zero` meets its contract: each arm knows its kind. Assumes nothing.
-use borrow.Author.Rules.{rules}
 use Rattle.frame.proofs.fixed_zero.Goals as goal
 
 pub returns-in-Short : goal.returns-in-Short

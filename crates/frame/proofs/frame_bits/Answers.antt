@@ -1,5 +1,4 @@
 -- `frame::frame_bits` meets its contract, by the two kinds. Assumes nothing.
-use borrow.Author.Rules.{rules}
 use Rattle.frame.proofs.frame_bits.Goals as goal
 
 pub returns-in-Short : goal.returns-in-Short

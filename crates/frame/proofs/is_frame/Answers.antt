@@ -1,5 +1,4 @@
 -- `frame::is_frame` meets its contract: each arm knows its kind. Assumes nothing.
-use borrow.Author.Rules.{rules}
 use Rattle.frame.specs.Numbers.{is_frame}
 use Rattle.frame.proofs.is_frame.Goals as goal
 

@@ -1,5 +1,4 @@
 -- `frame::judge` meets its contract: the stop bit is tested first, and the syndrome is that of the bits received. Assumes nothing.
-use borrow.Author.Rules.{rules}
 use borrow.Author.Tests.{ne_eqb}
 use Rattle.laws.proofs.Rules.{picks}
 use Rattle.hamming.specs.Code.{decode_word}

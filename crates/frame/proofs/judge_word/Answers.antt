@@ -1,9 +1,7 @@
 -- `frame::judge_word` meets its contract: the answer goes by what the decoder answered, and by the tests after it. Assumes nothing.
-use borrow.Author.Rules.{rules}
-use mathlib.Core.Path.{◌≡◌, refl, sym, ap, ◌∙◌}
+use mathlib.Core.Path.{refl, sym, ap, ◌∙◌}
 use borrow.Author.Tests.{eq-eqb, ne_eqb}
 use Rattle.laws.proofs.Rules.{pick_yes, pick_no}
-use Rattle.hamming.specs.Code.{in_use, by_syndrome}
 use Rattle.frame.specs.Decode.{judged_word}
 use Rattle.frame.proofs.judge_word.Goals as goal
 

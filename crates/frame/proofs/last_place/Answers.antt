@@ -1,5 +1,4 @@
 -- `frame::last_place` meets its contract: each arm knows its kind. Assumes nothing.
-use borrow.Author.Rules.{rules}
 use Rattle.frame.proofs.last_place.Goals as goal
 
 pub returns-in-Short : goal.returns-in-Short

@@ -1,5 +1,4 @@
 -- `frame::place_of` meets its contract: each arm knows its case, and counts from the last place of its kind. Assumes nothing.
-use borrow.Author.Rules.{rules}
 use Rattle.frame.proofs.place_of.Goals as goal
 
 pub returns-in-Check : goal.returns-in-Check

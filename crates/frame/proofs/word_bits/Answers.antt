@@ -1,5 +1,4 @@
 -- `frame::word_bits` meets its contract: each arm knows its kind. Assumes nothing.
-use borrow.Author.Rules.{rules}
 use Rattle.frame.proofs.word_bits.Goals as goal
 
 pub returns-in-Short : goal.returns-in-Short

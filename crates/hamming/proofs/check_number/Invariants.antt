@@ -1,13 +1,10 @@
 -- `hamming::check_number` meets its contract. The invariant: what is gathered, with the check number of the columns that are left, is the
 -- check number of all. Assumes nothing.
-use mathlib.Core.Path.{◌≡◌, sym, ap, ◌∙◌}
-use mathlib.Core.List.{List}
-use Prim.Native.Nat.{ℕ, ◌-◌}
+use mathlib.Core.Path.{◌≡◌}
+use Prim.Native.Nat.{◌-◌}
 use lib.ListN.{length, drop}
 use lib.Bits.{bit_xor}
 use Rattle.hamming.specs.Code.{in_use, check_number}
-use Rattle.hamming.proofs.Loops.{check_turn, check_end}
-use borrow.Author.Rules.{rules}
 use Rattle.hamming.proofs.check_number.Given as goal
 
 abbrev pub invariant-loop-bit : goal.invariant-loop-bit

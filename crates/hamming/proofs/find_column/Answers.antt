@@ -1,10 +1,8 @@
 -- `hamming::find_column` meets its contract. The invariant: a search from `at` on finds what a search from the start finds. Assumes nothing.
-use mathlib.Core.Path.{◌≡◌, sym, ap, ◌∙◌}
+use mathlib.Core.Path.{sym, ap, ◌∙◌}
 use mathlib.Core.List.{List}
-use Prim.Native.Nat.{ℕ, ◌-◌}
-use borrow.Author.Rules.{rules}
-use lib.ListN.{length, drop}
-use Rattle.hamming.specs.Code.{in_use, first_from, first_equal}
+use Prim.Native.Nat.{ℕ}
+use Rattle.hamming.specs.Code.{first_equal}
 use Rattle.hamming.proofs.Loops.{find_here, find_on, find_end}
 use Rattle.hamming.proofs.find_column.Goals as goal
 

@@ -1,11 +1,8 @@
 -- `hamming::find_column` meets its contract. The invariant: a search from `at` on finds what a search from the start finds. Assumes nothing.
-use mathlib.Core.Path.{◌≡◌, sym, ap, ◌∙◌}
-use mathlib.Core.List.{List}
-use Prim.Native.Nat.{ℕ, ◌-◌}
-use borrow.Author.Rules.{rules}
+use mathlib.Core.Path.{◌≡◌}
+use Prim.Native.Nat.{◌-◌}
 use lib.ListN.{length, drop}
 use Rattle.hamming.specs.Code.{in_use, first_from, first_equal}
-use Rattle.hamming.proofs.Loops.{find_here, find_on, find_end}
 use Rattle.hamming.proofs.find_column.Given as goal
 
 abbrev pub invariant-loop-at : goal.invariant-loop-at

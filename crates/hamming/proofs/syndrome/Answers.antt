@@ -1,5 +1,4 @@
 -- `hamming::syndrome` meets its contract, by what its callee ensures. Assumes nothing.
-use borrow.Author.Rules.{rules}
 use Rattle.hamming.specs.Code.{syndrome}
 use Rattle.hamming.proofs.syndrome.Goals as goal
 

@@ -1,7 +1,6 @@
 -- `idle_clock::bus_step` meets its contract: at each exit the tests that led there pick the same row of the definition. Assumes nothing.
 use Rattle.laws.proofs.Rules.{picks}
 use Rattle.idle_clock.specs.IdleClock.{bus_step}
-use borrow.Author.Rules.{rules}
 use Rattle.idle_clock.proofs.bus_step.Goals as goal
 
 pub returns-then-sequence-gt0 : goal.returns-then-sequence-gt0

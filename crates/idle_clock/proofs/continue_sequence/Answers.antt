@@ -1,7 +1,6 @@
 -- `idle_clock::continue_sequence` meets its contract: at each exit the tests that led there pick the same row of the definition. Assumes nothing.
 use Rattle.laws.proofs.Rules.{tests}
 use Rattle.idle_clock.specs.IdleClock.{continued}
-use borrow.Author.Rules.{rules}
 use Rattle.idle_clock.proofs.continue_sequence.Goals as goal
 
 pub returns-then-sequence-eq2 : goal.returns-then-sequence-eq2

@@ -2,7 +2,6 @@
 use native.Mathlib.Nat.{mod-add-mod}
 use Rattle.laws.proofs.Rules.{tests}
 use Rattle.idle_clock.specs.IdleClock.{count_clock}
-use borrow.Author.Rules.{rules}
 use Rattle.idle_clock.proofs.count_clock.Goals as goal
 
 pub returns-then-trigger-eq1 : goal.returns-then-trigger-eq1

@@ -1,6 +1,5 @@
 -- `idle_clock::idle_clock` meets its contract: bus and counters are what the calls give. Assumes nothing.
 use Rattle.idle_clock.specs.IdleClock.{idle_clock}
-use borrow.Author.Rules.{rules}
 use Rattle.idle_clock.proofs.idle_clock.Goals as goal
 
 pub returns : goal.returns

@@ -4,7 +4,6 @@ use Prim.Native.Nat.{ℕ, ◌+◌, ◌%◌}
 use native.Mathlib.Omega.{arith}
 use Rattle.receiver_state.specs.State.{counters, with_counters}
 use Rattle.idle_clock.specs.AtRest.{rest_for}
-use borrow.Author.Rules.{rules}
 use Rattle.idle_clock.proofs.rest_for.Goals as goal
 
 pub returns : goal.returns

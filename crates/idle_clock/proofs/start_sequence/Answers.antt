@@ -1,7 +1,6 @@
 -- `idle_clock::start_sequence` meets its contract: at each exit the tests that led there pick the same row of the definition. Assumes nothing.
 use Rattle.laws.proofs.Rules.{picks}
 use Rattle.idle_clock.specs.IdleClock.{started}
-use borrow.Author.Rules.{rules}
 use Rattle.idle_clock.proofs.start_sequence.Goals as goal
 
 pub returns-then-mode-eq1 : goal.returns-then-mode-eq1

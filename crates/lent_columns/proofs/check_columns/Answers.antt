@@ -5,7 +5,6 @@ use lib.Dec.{lit≤}
 use lib.Seq.{length-take-le}
 use Rattle.laws.proofs.Rules.{picks}
 use Rattle.lent_columns.specs.Check.{check_columns}
-use borrow.Author.Rules.{rules}
 use Rattle.lent_columns.proofs.check_columns.Goals as goal
 
 pub returns-then-columns-ne-TABLE_LENGTH : goal.returns-then-columns-ne-TABLE_LENGTH

@@ -1,12 +1,11 @@
 -- `lent_columns::decode_with_columns` meets its contract: by the check of the columns and the test of refusal 12; those lent on are the two groups. Assumes nothing.
 use Rattle.lent_columns.proofs.decode_with_columns.Goals as goal
-
 use mathlib.Core.Path.{◌≡◌, sym, ap, ◌∙◌}
 use mathlib.Core.List.{List}
 use Prim.Native.Nat.{ℕ}
 use Rattle.frame.specs.declared.Kind.{Kind}
 use Rattle.lent_columns.specs.Check.{lent_columns}
-use borrow.Author.Tests.{eq-eqb, ne_eqb, le-ltb, lt-ltb}
+use borrow.Author.Tests.{eq-eqb, ne_eqb}
 use lib.Dec.{lit≤}
 use lib.Seq.{length-take-le}
 use Rattle.laws.proofs.Rules.{denied, granted}
@@ -14,9 +13,6 @@ use Rattle.lent_columns.specs.Frames.{decode_with_columns}
 use Rattle.frame.specs.Decode.{finished_answer, decode_frame}
 use Rattle.lent_columns.proofs.Laws.{whole_table}
 use Rattle.lent_columns.proofs.Parts.{lent_in_use}
-use borrow.Author.Rules.{rules}
-use Rattle.lent_columns.proofs.decode_with_columns.Statement.{statement}
-use Rattle.lent_columns.proofs.decode_with_columns.Tie as tie
 
 pub returns-then-checked-ne0 : goal.returns-then-checked-ne0
 unfolding decode_with_columns

@@ -1,20 +1,15 @@
 -- `lent_columns::encode_long_with_columns` meets its contract: by the check of the columns, then as `encode_long`; those lent on are the last 32. Assumes nothing.
 use Rattle.lent_columns.proofs.encode_long_with_columns.Goals as goal
-
 use mathlib.Core.Path.{sym}
 use Prim.Native.Nat.{ℕ, suc, ◌<◌, ◌≤◌}
 use native.Mathlib.Nat.{mod-eq_of_lt}
 use native.Mathlib.Omega.{arith}
 use borrow.Author.Tests.{eq-eqb, ne_eqb, le-ltb, lt-ltb}
 use lib.Dec.{lit≤}
-use lib.Seq.{length-take-le}
 use Rattle.lent_columns.specs.Frames.{encode_long_with_columns}
 use Rattle.frame.specs.Encode.{encode_long}
 use Rattle.lent_columns.proofs.Laws.{whole_table}
 use Rattle.lent_columns.proofs.Parts.{long_in_use}
-use borrow.Author.Rules.{rules}
-use Rattle.lent_columns.proofs.encode_long_with_columns.Statement.{statement}
-use Rattle.lent_columns.proofs.encode_long_with_columns.Tie as tie
 
 below : (top n : ℕ) → n ≤ top → n < suc top
 below top n h = omega arith

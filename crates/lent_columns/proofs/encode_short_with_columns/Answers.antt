@@ -1,16 +1,12 @@
 -- `lent_columns::encode_short_with_columns` meets its contract: by the check of the columns; those lent on are the first eight. Assumes nothing.
 use Rattle.lent_columns.proofs.encode_short_with_columns.Goals as goal
-
 use mathlib.Core.Path.{sym}
-use borrow.Author.Tests.{eq-eqb, ne_eqb, le-ltb, lt-ltb}
+use borrow.Author.Tests.{eq-eqb, ne_eqb}
 use lib.Dec.{lit≤}
 use lib.Seq.{length-take-le}
 use Rattle.lent_columns.specs.Frames.{encode_short_with_columns}
 use Rattle.lent_columns.proofs.Laws.{whole_table}
 use Rattle.lent_columns.proofs.Parts.{short_in_use}
-use borrow.Author.Rules.{rules}
-use Rattle.lent_columns.proofs.encode_short_with_columns.Statement.{statement}
-use Rattle.lent_columns.proofs.encode_short_with_columns.Tie as tie
 
 pub returns-then-checked-ne0 : goal.returns-then-checked-ne0
 unfolding encode_short_with_columns

@@ -1,17 +1,10 @@
 -- `lent_columns::first_bad` meets its contract. The invariant, for every width w whose good numbers the loop starts with: the numbers that the next
 -- column may be are those left, and the first bad column is still to come. Assumes nothing.
-use mathlib.Core.Path.{◌≡◌, ap, ◌∙◌}
 use mathlib.Core.List.{[]}
 use Prim.Native.Nat.{ℕ, ◌-◌}
-use borrow.Author.Rules.{rules}
 use lib.ListN.{length}
-use Rattle.laws.proofs.Rules.{denied, granted}
-use Rattle.frame.specs.declared.Kind.{Kind}
-use Rattle.frame.specs.Numbers.{check_bits}
-use Rattle.lent_columns.specs.declared.NumberSet.{NumberSet}
-use Rattle.lent_columns.specs.NumberSets.{is_in, good_numbers}
-use Rattle.lent_columns.proofs.NumberSets.{Free, good_free}
-use Rattle.lent_columns.proofs.Search.{Going, starts, stops, goes_on, ends}
+use Rattle.lent_columns.proofs.NumberSets.{Free}
+use Rattle.lent_columns.proofs.Search.{Going}
 use Rattle.lent_columns.proofs.first_bad.Given as goal
 
 abbrev pub invariant-loop-at : goal.invariant-loop-at

@@ -1,5 +1,4 @@
 -- `lent_columns::good_numbers` meets its contract. Assumes nothing.
-use borrow.Author.Rules.{rules}
 use Rattle.lent_columns.proofs.good_numbers.Goals as goal
 
 pub returns-in-Short : goal.returns-in-Short

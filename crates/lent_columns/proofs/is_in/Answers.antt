@@ -1,5 +1,4 @@
 -- `lent_columns::is_in` meets its contract. Assumes nothing.
-use borrow.Author.Rules.{rules}
 use Rattle.laws.proofs.Rules.{picks}
 use Rattle.lent_columns.specs.NumberSets.{is_in}
 use Rattle.lent_columns.proofs.is_in.Goals as goal

@@ -1,5 +1,4 @@
 -- `lent_columns::without` meets its contract. Assumes nothing.
-use borrow.Author.Rules.{rules}
 use Rattle.laws.proofs.Rules.{picks}
 use Rattle.lent_columns.specs.NumberSets.{without}
 use Rattle.lent_columns.proofs.without.Goals as goal

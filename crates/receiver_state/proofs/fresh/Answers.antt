@@ -1,7 +1,6 @@
 -- `receiver_state::fresh` meets its contract: at each exit the tests that led there pick the same row of the definition. Assumes nothing.
 use Rattle.laws.proofs.Rules.{picks}
 use Rattle.receiver_state.specs.State.{fresh_answer}
-use borrow.Author.Rules.{rules}
 use Rattle.receiver_state.proofs.fresh.Goals as goal
 
 pub returns-then-id-eq0 : goal.returns-then-id-eq0

@@ -1,5 +1,4 @@
 -- `receiver_state::refuse_fresh` meets its contract: the zeros are those of the calls. Assumes nothing.
-use borrow.Author.Rules.{rules}
 use Rattle.receiver_state.proofs.refuse_fresh.Goals as goal
 
 pub returns : goal.returns

@@ -2,7 +2,6 @@
 use Rattle.laws.proofs.Rules.{gates}
 use Rattle.laws.specs.Tests.{every}
 use Rattle.receiver_state.specs.WellFormed.{well_formed}
-use borrow.Author.Rules.{rules}
 use Rattle.receiver_state.proofs.well_formed.Goals as goal
 
 pub returns-then-not-core_ok : goal.returns-then-not-core_ok

@@ -2,7 +2,6 @@
 use native.Mathlib.Nat.{div-one}
 use Rattle.laws.proofs.Rules.{tests}
 use Rattle.register_map.specs.Map.{register_byte}
-use borrow.Author.Rules.{rules}
 use Rattle.register_map.proofs.register_byte.Goals as goal
 
 pub returns-in-0 : goal.returns-in-0

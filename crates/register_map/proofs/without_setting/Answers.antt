@@ -1,6 +1,5 @@
 -- `register_map::without_setting` meets its contract: at each exit the tests that led there pick the same answer. Assumes nothing.
 use Rattle.laws.proofs.Rules.{picks}
-use borrow.Author.Rules.{rules}
 use Rattle.register_map.specs.Map.{without_setting}
 use Rattle.register_map.proofs.without_setting.Goals as goal
 

@@ -1,7 +1,6 @@
 -- `register_map::write_byte` meets its contract: each arm knows its number, and the last that it is none of them. Assumes nothing.
 use Rattle.laws.proofs.Rules.{picks}
 use Rattle.register_map.specs.Change.{after_write}
-use borrow.Author.Rules.{rules}
 use Rattle.register_map.proofs.write_byte.Goals as goal
 
 pub returns-then-number-lt4 : goal.returns-then-number-lt4

@@ -1,7 +1,6 @@
 -- `registers::read` meets its contract: at each exit the tests that led there pick the same answer. Assumes nothing.
 use Rattle.laws.proofs.Rules.{picks}
 use Rattle.registers.specs.Access.{read_answer}
-use borrow.Author.Rules.{rules}
 use Rattle.registers.proofs.read.Goals as goal
 
 pub returns-then-not-well_formed : goal.returns-then-not-well_formed

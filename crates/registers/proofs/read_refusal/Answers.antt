@@ -1,7 +1,6 @@
 -- `registers::read_refusal` meets its contract. Assumes nothing.
 use Rattle.laws.proofs.Rules.{picks}
 use Rattle.registers.specs.Access.{read_refusal}
-use borrow.Author.Rules.{rules}
 use Rattle.registers.proofs.read_refusal.Goals as goal
 
 pub returns-then-in_map : goal.returns-then-in_map

@@ -1,7 +1,6 @@
 -- `registers::write_refusal` meets its contract: at each exit the tests that led there pick the same refusal. Assumes nothing.
 use Rattle.laws.proofs.Rules.{picks}
 use Rattle.registers.specs.Access.{write_refusal}
-use borrow.Author.Rules.{rules}
 use Rattle.registers.proofs.write_refusal.Goals as goal
 
 pub returns-then-not-in_map : goal.returns-then-not-in_map

@@ -1,5 +1,4 @@
 -- `stored_line::digit_character` meets its contract: one test, then the arithmetic of the definition. Assumes nothing.
-use borrow.Author.Rules.{rules}
 use Rattle.laws.proofs.Rules.{tests}
 use Rattle.stored_line.specs.Digits.{digit_character}
 use Rattle.stored_line.proofs.digit_character.Goals as goal

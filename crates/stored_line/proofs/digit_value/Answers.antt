@@ -1,8 +1,6 @@
 -- `stored_line::digit_value` meets its contract: at each exit the tests that led there say which case of the definition holds. Assumes nothing.
-use borrow.Author.Rules.{rules}
-use mathlib.Core.Path.{◌≡◌, sym, ◌∙◌}
-use mathlib.Core.Bool.{false}
-use Rattle.stored_line.specs.Digits.{between, digit_value}
+use mathlib.Core.Path.{sym, ◌∙◌}
+use Rattle.stored_line.specs.Digits.{digit_value}
 use Rattle.stored_line.proofs.Digits.{between_low}
 use Rattle.stored_line.proofs.digit_value.Goals as goal
 

@@ -1,5 +1,4 @@
 -- `stored_line::frame_answer` meets its contract: each arm knows its kind. Assumes nothing.
-use borrow.Author.Rules.{rules}
 use Rattle.stored_line.proofs.frame_answer.Goals as goal
 
 pub returns-in-Short : goal.returns-in-Short

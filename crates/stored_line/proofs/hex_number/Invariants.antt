@@ -1,14 +1,9 @@
 -- `stored_line::hex_number` meets its contract. The invariant: the number so far, with the digits that are left, is the number of all, and
 -- all are digits exactly if those that are left are. Assumes nothing.
-use borrow.Author.Rules.{rules}
-use mathlib.Core.Path.{◌≡◌, refl, sym, ap, ◌∙◌}
+use mathlib.Core.Path.{◌≡◌}
 use Prim.Native.Nat.{◌+◌, ◌-◌, ◌*◌, ◌^◌, ◌<◌}
-use native.Mathlib.Omega.{arith}
 use lib.ListN.{length, drop}
-use Rattle.laws.proofs.Rules.{pick_yes, pick_no}
-use Rattle.stored_line.specs.declared.Hex.TheVariants.{Number}
-use Rattle.stored_line.specs.Digits.{all_digits, hex_number, hex_answer}
-use Rattle.stored_line.proofs.Digits.{below_tenth, below_next, number_on, number_end, digits_on, digits_off, digits_end}
+use Rattle.stored_line.specs.Digits.{all_digits, hex_number}
 use Rattle.stored_line.proofs.hex_number.Given as goal
 
 abbrev pub invariant-loop-at : goal.invariant-loop-at

@@ -1,5 +1,4 @@
 -- `stored_line::line_answer` meets its contract: each arm knows its case. Assumes nothing.
-use borrow.Author.Rules.{rules}
 use Rattle.stored_line.proofs.line_answer.Goals as goal
 
 pub returns-in-Frame : goal.returns-in-Frame

@@ -1,8 +1,7 @@
 -- `stored_line::read_as` meets its contract: by what the characters spell, then by the test of refusal 12. Assumes nothing.
-use borrow.Author.Rules.{rules}
-use mathlib.Core.Path.{◌≡◌, refl, sym, ap, ◌∙◌}
+use mathlib.Core.Path.{refl, sym, ap, ◌∙◌}
 use Rattle.laws.proofs.Rules.{pick_yes, pick_no, denied, granted}
-use Rattle.stored_line.specs.Read.{read_hex, read_as}
+use Rattle.stored_line.specs.Read.{read_hex}
 use Rattle.stored_line.proofs.read_as.Goals as goal
 
 pub returns-in_default : goal.returns-in_default

@@ -1,5 +1,4 @@
 -- `stored_line::read_line` meets its contract: by the two tests of the length. Assumes nothing.
-use borrow.Author.Rules.{rules}
 use borrow.Author.Tests.{eq-eqb, ne_eqb}
 use Rattle.stored_line.specs.Read.{read_line}
 use Rattle.stored_line.proofs.read_line.Goals as goal

@@ -1,12 +1,9 @@
 -- `stored_line::write_digits` meets its contract. The invariant: the digits still to be written, before what is in the buffer behind them,
 -- are all the digits before what the buffer held behind them. Assumes nothing.
-use borrow.Author.Rules.{rules}
-use mathlib.Core.Path.{◌≡◌, ◌∙◌}
-use mathlib.Core.List.{◌++◌}
+use mathlib.Core.Path.{◌∙◌}
 use Prim.Native.Nat.{◌-◌, ◌≤◌}
 use native.Mathlib.Omega.{arith}
-use lib.ListN.{length, drop, length-set}
-use Rattle.stored_line.specs.Digits.{hex_digits}
+use lib.ListN.{length, length-set}
 use Rattle.stored_line.proofs.Digits.{digit_written, written_all}
 use Rattle.stored_line.proofs.write_digits.Goals as goal
 

@@ -1,13 +1,10 @@
 -- `stored_line::write_digits` meets its contract. The invariant: the digits still to be written, before what is in the buffer behind them,
 -- are all the digits before what the buffer held behind them. Assumes nothing.
-use borrow.Author.Rules.{rules}
-use mathlib.Core.Path.{◌≡◌, ◌∙◌}
+use mathlib.Core.Path.{◌≡◌}
 use mathlib.Core.List.{◌++◌}
-use Prim.Native.Nat.{◌-◌, ◌≤◌}
-use native.Mathlib.Omega.{arith}
-use lib.ListN.{length, drop, length-set}
+use Prim.Native.Nat.{◌≤◌}
+use lib.ListN.{length, drop}
 use Rattle.stored_line.specs.Digits.{hex_digits}
-use Rattle.stored_line.proofs.Digits.{digit_written, written_all}
 use Rattle.stored_line.proofs.write_digits.Given as goal
 
 abbrev pub invariant-loop-at : goal.invariant-loop-at

@@ -1,5 +1,4 @@
 -- `stored_line::write_hex` meets its contract: at each exit the test that led there picks the same row of the definition. Assumes nothing.
-use borrow.Author.Rules.{rules}
 use Rattle.laws.proofs.Rules.{picks}
 use Rattle.stored_line.specs.Digits.{hex_written}
 use Rattle.stored_line.proofs.write_hex.Goals as goal

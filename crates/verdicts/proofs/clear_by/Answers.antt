@@ -1,7 +1,6 @@
 -- `verdicts::clear_by` meets its contract: at each exit the tests that led there pick the same counters. Assumes nothing.
 use Rattle.laws.proofs.Rules.{tests}
 use Rattle.verdicts.specs.Table.{cleared_by}
-use borrow.Author.Rules.{rules}
 use Rattle.verdicts.proofs.clear_by.Goals as goal
 
 pub returns-then-byte-eq1-2 : goal.returns-then-byte-eq1-2

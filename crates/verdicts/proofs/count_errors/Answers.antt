@@ -1,6 +1,5 @@
 -- `verdicts::count_errors` meets its contract: each field is what the call above it gives. Assumes nothing.
 use Rattle.verdicts.specs.Finished.{count_errors}
-use borrow.Author.Rules.{rules}
 use Rattle.verdicts.proofs.count_errors.Goals as goal
 
 pub returns : goal.returns

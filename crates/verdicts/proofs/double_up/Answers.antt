@@ -1,7 +1,6 @@
 -- `verdicts::double_up` meets its contract: at each exit the tests that led there pick the same row of the definition. Assumes nothing.
 use Rattle.laws.proofs.Rules.{tests}
 use Rattle.verdicts.specs.Table.{up_to, double_up}
-use borrow.Author.Rules.{rules}
 use Rattle.verdicts.proofs.double_up.Goals as goal
 
 pub returns-then-core-lt255 : goal.returns-then-core-lt255

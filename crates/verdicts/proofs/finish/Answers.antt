@@ -1,6 +1,5 @@
 -- `verdicts::finish` meets its contract: row, flag and word are what the calls give. Assumes nothing.
 use Rattle.verdicts.specs.Finished.{finished}
-use borrow.Author.Rules.{rules}
 use Rattle.verdicts.proofs.finish.Goals as goal
 
 pub returns : goal.returns

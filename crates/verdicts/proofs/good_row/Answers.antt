@@ -1,5 +1,4 @@
 -- `verdicts::good_row` meets its contract: each arm knows its kind. Assumes nothing.
-use borrow.Author.Rules.{rules}
 use Rattle.verdicts.proofs.good_row.Goals as goal
 
 pub returns-in-Short : goal.returns-in-Short

@@ -1,7 +1,6 @@
 -- `verdicts::long_row` meets its contract: at each exit the tests that led there pick the same row of the definition. Assumes nothing.
 use Rattle.laws.proofs.Rules.{picks}
 use Rattle.verdicts.specs.Table.{long_row}
-use borrow.Author.Rules.{rules}
 use Rattle.verdicts.proofs.long_row.Goals as goal
 
 pub returns-then-is_foreign : goal.returns-then-is_foreign

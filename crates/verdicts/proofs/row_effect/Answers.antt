@@ -1,15 +1,10 @@
 -- `verdicts::row_effect` meets its contract: two arms know their row, and the rows of the last one have no effect. Assumes nothing.
 use mathlib.Core.Path.{◌≡◌, refl}
-use mathlib.Core.List.{[], ◌∷◌}
-use borrow.Author.Rules.{rules}
-use denote.Enum.Declared.{tag_of}
-use types.Run.{OneOf, miss}
 use Rattle.frame.specs.declared.Fields.{Fields}
 use Rattle.receiver_state.specs.declared.Core.{Core}
 use Rattle.verdicts.specs.declared.LongRow.{LongRow}
 use Rattle.verdicts.specs.declared.LongRow.TheVariants.{Foreign, Outside, WithoutSetting, Store, Reset, Other}
 use Rattle.verdicts.specs.Table.{row_effect}
-use Rattle.verdicts.specs.contracts.LongRow as row
 use Rattle.verdicts.proofs.row_effect.Goals as goal
 
 -- the rows of the last arm: those that are neither stored nor a RESET

@@ -1,7 +1,6 @@
 -- `verdicts::single_after` meets its contract: at each exit the tests that led there pick the same row of the definition. Assumes nothing.
 use Rattle.laws.proofs.Rules.{tests}
 use Rattle.verdicts.specs.Table.{up_to}
-use borrow.Author.Rules.{rules}
 use Rattle.verdicts.proofs.single_after.Goals as goal
 
 pub returns-then-single-lt65535 : goal.returns-then-single-lt65535

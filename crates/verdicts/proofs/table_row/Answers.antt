@@ -1,7 +1,6 @@
 -- `verdicts::table_row` meets its contract: at each exit the tests that led there pick the same row of the definition. Assumes nothing.
 use Rattle.laws.proofs.Rules.{tests}
 use Rattle.verdicts.specs.Table.{table_row}
-use borrow.Author.Rules.{rules}
 use Rattle.verdicts.proofs.table_row.Goals as goal
 
 pub returns-then-frame-eq0 : goal.returns-then-frame-eq0

@@ -5,7 +5,6 @@ use lib.Pow.{pow_mono}
 use Rattle.laws.proofs.Rules.{gates}
 use Rattle.laws.specs.Tests.{every}
 use Rattle.receiver_state.specs.WellFormed.{bits_ok}
-use borrow.Author.Rules.{rules}
 use Rattle.receiver_state.proofs.form.bits_ok.Goals as goal
 
 pub returns-then-count-gt41 : goal.returns-then-count-gt41

@@ -2,7 +2,6 @@
 use Rattle.laws.proofs.Rules.{gates}
 use Rattle.laws.specs.Tests.{every}
 use Rattle.receiver_state.specs.WellFormed.{core_ok}
-use borrow.Author.Rules.{rules}
 use Rattle.receiver_state.proofs.form.core_ok.Goals as goal
 
 pub returns-then-not-ids_ok : goal.returns-then-not-ids_ok

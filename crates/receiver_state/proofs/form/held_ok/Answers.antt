@@ -2,7 +2,6 @@
 use Rattle.laws.proofs.Rules.{gates}
 use Rattle.laws.specs.Tests.{every}
 use Rattle.receiver_state.specs.WellFormed.{held_ok}
-use borrow.Author.Rules.{rules}
 use Rattle.receiver_state.proofs.form.held_ok.Goals as goal
 
 pub returns-then-not-bits_ok : goal.returns-then-not-bits_ok

@@ -1,7 +1,6 @@
 -- `receiver_state::form::settings_ok` meets its contract: at each exit the tests that led there pick the same row of the definition. Assumes nothing.
 use Rattle.laws.proofs.Rules.{gates}
 use Rattle.laws.specs.Tests.{every}
-use borrow.Author.Rules.{rules}
 use Rattle.receiver_state.specs.WellFormed.{settings_ok}
 use Rattle.receiver_state.proofs.form.settings_ok.Goals as goal
 
