@@ -1,5 +1,5 @@
 -- The decimal digits of a number: those of its tenth, and one more; how many there are. Assumes nothing.
-use Rattle.std.proofs.Common.{◌≡◌, ℕ, zero, suc, ◌+◌, ◌*◌, ◌/◌, ◌%◌, ◌^◌, ◌<◌, ◌≤◌, cond, ltb, List, [], ◌∷◌, ◌++◌, length, sym, refl, ap, ◌∙◌, pow-suc, arith, length-append, ltb-false, ltb-true, le-ltb, lt-ltb}
+use Rattle.std.proofs.Common.{◌≡◌, ℕ, zero, suc, ◌+◌, ◌/◌, ◌%◌, ◌^◌, ◌<◌, ◌≤◌, cond, ltb, List, [], ◌∷◌, ◌++◌, length, refl, ap, pow-suc, arith, length-append, ltb-false, ltb-true, le-ltb, lt-ltb}
 use Rattle.laws.proofs.Rules.{picked, by_test}
 use Rattle.stored_line.specs.Digits.{digit_character}
 use Rattle.line_report.specs.Text.{decimal_up_to, decimal}

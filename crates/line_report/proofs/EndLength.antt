@@ -16,7 +16,6 @@ use Rattle.stored_line.specs.declared.StoredLine.{StoredLine}
 use Rattle.stored_line.specs.declared.StoredLine.TheVariants.{Frame, Refused}
 use Rattle.stored_line.specs.Digits.{digit_character, hex_digits}
 use Rattle.stored_line.proofs.Refusals.{RefusalSmall}
-use Rattle.line_report.specs.declared.Report.{Report}
 use Rattle.line_report.specs.Text.{decimal_up_to, decimal, word_digits, prints_dash, word_text, prints_place, place_text, verdict_text, answer_text, line_text, counts_text, end_text, core_end_text}
 use Rattle.line_report.specs.Output.{after_line, next_line, line_prints}
 use Rattle.line_report.specs.Report.{read_part, line_ended, longest_end, after_last, last_prints}

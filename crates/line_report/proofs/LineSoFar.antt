@@ -1,5 +1,5 @@
 -- The line so far stands for its characters, however they came. Assumes nothing.
-use Rattle.std.proofs.Common.{◌≡◌, ℕ, suc, ◌+◌, ◌<◌, ◌≤◌, Bool, true, false, ltb, ◌≢◌, ◌⊎◌, List, [], ◌∷◌, ◌++◌, length, take, set, sym, refl, ap, ◌∙◌, inl, inr, append_assoc, append-nil, add-one, arith, length-append, length-set, take-suc-set, ltb-false, ltb-true, le-ltb, lt-ltb, ne_eqb}
+use Rattle.std.proofs.Common.{◌≡◌, ℕ, ◌+◌, ◌<◌, ◌≤◌, ltb, ◌⊎◌, List, [], ◌∷◌, ◌++◌, length, take, set, sym, refl, ap, ◌∙◌, inl, inr, append_assoc, append-nil, add-one, arith, length-append, length-set, take-suc-set, ltb-false, ltb-true, le-ltb, lt-ltb, ne_eqb}
 use Rattle.laws.proofs.Rules.{by_test}
 use Rattle.stored_line.specs.declared.StoredLine.TheVariants.{Refused}
 use Rattle.stored_line.specs.Read.{read_line}

@@ -1,5 +1,5 @@
 -- The 41 ones after a line with verdict 7. Assumes nothing.
-use Rattle.std.proofs.Common.{◌≡◌, ℕ, true, ap, arith, eq-eqb, ne_eqb}
+use Rattle.std.proofs.Common.{◌≡◌, ℕ, true, ap, arith, eq-eqb}
 use Rattle.frame.specs.Columns.{columns_of}
 use Rattle.receiver_state.specs.declared.Receiver.{Receiver}
 use Rattle.receiver_state.specs.State.{wanting_ones, nothing_held, receiver}

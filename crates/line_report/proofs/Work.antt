@@ -1,7 +1,6 @@
 -- The work on a piece of input: to the end where no line feed is left, and from line to line. Assumes nothing.
-use Rattle.std.proofs.Common.{◌≡◌, ℕ, zero, suc, ◌+◌, ◌-◌, ◌*◌, ◌<◌, ◌≤◌, Bool, true, false, eqb, ltb, List, [], ◌∷◌, ◌++◌, length, take, drop, sym, refl, ap, ◌∙◌, ap₂, append_assoc, suc-add, zero-add, arith, length-append, ltb-false, le-ltb, lt-ltb}
+use Rattle.std.proofs.Common.{◌≡◌, ℕ, suc, ◌+◌, ◌-◌, ◌*◌, ◌<◌, ◌≤◌, true, false, eqb, ltb, List, [], ◌∷◌, ◌++◌, length, take, drop, sym, refl, ap, ◌∙◌, suc-add, zero-add, arith, length-append, ltb-false, le-ltb, lt-ltb}
 use native.Mathlib.Nat.{sub-zero}
-use lib.Seq.{sets}
 use Rattle.laws.proofs.Rules.{picked, picked_by, by_test}
 use Rattle.frame.specs.declared.Kind.{Kind}
 use Rattle.stored_line.specs.declared.StoredLine.{StoredLine}

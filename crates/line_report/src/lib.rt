@@ -4,6 +4,7 @@
 // The report's state goes by value, in and out: it is 72 bytes of plain data. A piece of input
 // is only read, and is lent; the text goes to the caller's own buffer, lent to be written.
 #![tactic(auto)]
+
 ghost use Rattle.std.specs.Prelude.{◌≡◌, ◌+◌, ◌<◌, ◌≤◌, length};
 ghost use Rattle.frame.specs.Columns.{columns_of};
 ghost use Rattle.whole_frame.specs.WholeFrame.{LeftWanting};

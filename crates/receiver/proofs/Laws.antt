@@ -22,7 +22,7 @@ use Rattle.receiver_state.specs.declared.Clocked.{Clocked}
 use Rattle.receiver_state.specs.declared.Held.{Held}
 use Rattle.receiver_state.specs.declared.Outputs.{Outputs}
 use Rattle.receiver_state.specs.declared.Receiver.{Receiver}
-use Rattle.receiver_state.specs.State.{wanting_ones, receiver, fresh_state}
+use Rattle.receiver_state.specs.State.{receiver, fresh_state}
 use Rattle.receiver_state.specs.Shown.{ShowsNothing, Stands}
 use Rattle.receiver_state.specs.WellFormed.{well_formed}
 use Rattle.receiver_state.proofs.WellFormed.{receiver_facts, receiver_ok}
@@ -32,7 +32,7 @@ use Rattle.idle_clock.specs.Laws.{Shows, BusShows, SequenceLeft}
 use Rattle.idle_clock.proofs.Laws.{idle_laws}
 use Rattle.channel_b.specs.declared.Taken.{Taken}
 use Rattle.channel_b.specs.declared.Taken.TheVariants.{Unfinished, Finished}
-use Rattle.channel_b.specs.TakeBit.{take_bit, held_after, held_after_bit, Waits}
+use Rattle.channel_b.specs.TakeBit.{take_bit, held_after, held_after_bit}
 use Rattle.channel_b.proofs.Bits.{bit_law}
 use Rattle.channel_b.proofs.Laws.{finishes_frames, after_frame}
 use Rattle.verdicts.specs.Table.{dropped}

@@ -1,7 +1,6 @@
 -- Document 01, "One clock", with document 02, Q-1, Q-4 and Q-8: what holds of every clock, over the columns of each kind of frame. Proved in proofs/Laws.antt.
 use Rattle.std.specs.Prelude.{ℕ, ◌+◌, ◌/◌, ◌%◌, ◌^◌, ◌<◌, ◌≤◌, ◌≡◌, ◌≢◌, ◌⊎◌, ◌↔◌, true, false, List}
 use Rattle.frame.specs.declared.Kind.{Kind}
-use Rattle.frame.specs.Numbers.{is_frame}
 use Rattle.frame.specs.Columns.{columns_of, GoodTables}
 use Rattle.frame.specs.Place.{largest_place}
 use Rattle.frame.specs.Decode.{decode_frame}

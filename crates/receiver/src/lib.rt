@@ -3,6 +3,7 @@
 // The state goes by value, in and out: see `receiver_state`. Columns are only read, and are lent: the
 // public clock passes document 01's table down.
 #![tactic(auto)]
+
 ghost use Rattle.std.specs.Prelude.{◌≡◌};
 ghost use Rattle.hamming.specs.Code.{in_use};
 ghost use Rattle.frame.specs.Columns.{columns_for, columns_of};

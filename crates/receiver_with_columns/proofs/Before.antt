@@ -1,5 +1,5 @@
 -- What is refused before the columns are used. Assumes nothing.
-use mathlib.Core.Path.{◌≡◌, refl, sym, ap, ◌∙◌}
+use mathlib.Core.Path.{◌≡◌, sym, ap}
 use mathlib.Core.Logic.{◌≢◌}
 use mathlib.Core.Bool.{false, cond}
 use mathlib.Core.List.{List}
@@ -20,7 +20,6 @@ use Rattle.receiver.specs.Clock.{refused_clock, clock_answer}
 use Rattle.whole_frame.specs.WholeFrame.{receive_answer}
 use Rattle.whole_frame.specs.ByFormat.{receive_by_format}
 use Rattle.trace.specs.Block.{BlockDone, refused_block, run_block}
-use Rattle.receiver_with_columns.specs.declared.ClockWithIndex.{ClockWithIndex}
 use Rattle.receiver_with_columns.specs.WithColumns.{refused_before, clock_with, unless_refused_clock, BlockDoneWithIndex}
 
 -- a state that is not well formed is refused by 2, whatever the columns are

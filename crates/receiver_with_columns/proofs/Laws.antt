@@ -1,7 +1,7 @@
 -- Clocks, whole frames and blocks with lent columns: what is answered to a table that passes, and what is refused before. Assumes nothing.
 use mathlib.Core.Path.{◌≡◌, refl, sym, ap, ◌∙◌}
 use mathlib.Core.Logic.{◌≢◌}
-use mathlib.Core.Bool.{true, false, cond}
+use mathlib.Core.Bool.{true, false}
 use mathlib.Core.List.{List}
 use Prim.Native.Nat.{ℕ}
 use native.Mathlib.Omega.{arith}
@@ -19,9 +19,8 @@ use Rattle.receiver_state.specs.declared.Receiver.{Receiver}
 use Rattle.receiver_state.specs.Shown.{no_outputs}
 use Rattle.receiver_state.specs.WellFormed.{well_formed}
 use Rattle.receiver.specs.declared.ClockAnswer.{ClockAnswer}
-use Rattle.receiver.specs.Clock.{refused_clock, step_answer, clock_answer}
+use Rattle.receiver.specs.Clock.{step_answer, clock_answer}
 use Rattle.receiver.proofs.Laws.{clock_theorem}
-use Rattle.trace.specs.Block.{BlockDone, refused_block, run_block, RefusedKeeps}
 use Rattle.trace.proofs.Refused.{refused_keeps}
 use Rattle.whole_frame.proofs.WholeFrameLaw.{whole_frame_theorem}
 use Rattle.whole_frame.proofs.ByFormatLaws.{format_theorem}

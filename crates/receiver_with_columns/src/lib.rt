@@ -6,6 +6,7 @@
 // Refusal 2 comes before those of the columns. Yet the columns are checked first: what is called then
 // refuses by 2 itself, and a well-formed state is checked once.
 #![tactic(auto)]
+
 ghost use Rattle.std.specs.Prelude.{◌≡◌, cond, ◌/◌, ◌%◌, ◌^◌, ◌<◌, ◌≤◌};
 ghost use Rattle.hamming.specs.Code.{in_use};
 ghost use Rattle.frame.specs.Columns.{columns_for};

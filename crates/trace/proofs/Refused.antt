@@ -1,12 +1,10 @@
 -- What a refused block leaves. Assumes nothing.
-use mathlib.Core.Path.{◌≡◌, refl}
+use mathlib.Core.Path.{refl}
 use mathlib.Core.Logic.{◌≢◌}
-use mathlib.Core.List.{List}
 use Prim.Native.Nat.{ℕ, ◌*◌}
 use lib.Dec.{ltb}
 use lib.ListN.{length}
 use Rattle.laws.proofs.Rules.{picked}
-use Rattle.receiver_state.specs.declared.Receiver.{Receiver}
 use Rattle.receiver_state.specs.WellFormed.{well_formed}
 use Rattle.trace.specs.Record.{record_numbers}
 use Rattle.trace.specs.Block.{BlockDone, refused_block, block_clocks, no_byte_over_3, run_block, RefusedKeeps, RefusedLaw}

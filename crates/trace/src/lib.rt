@@ -5,6 +5,7 @@
 // read, and are lent by `&`; records go to the caller's own buffer, lent by `&mut`. The second call takes the buffer
 // by `&`, and what comes back is a part of it: nothing is copied, and no number can change.
 #![tactic(auto)]
+
 ghost use Rattle.std.specs.Prelude.{◌≡◌};
 ghost use Rattle.hamming.specs.Code.{in_use};
 ghost use Rattle.frame.specs.Columns.{columns_for, columns_of};

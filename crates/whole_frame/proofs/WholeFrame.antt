@@ -9,7 +9,7 @@ use Rattle.frame.specs.Bits.{bits_of}
 use Rattle.frame.proofs.Bits.{bits_law}
 use Rattle.receiver_state.specs.WellFormed.{ReceiverFacts}
 use Rattle.receiver.specs.declared.ClockAnswer.{ClockAnswer}
-use Rattle.receiver.specs.Clock.{step_answer, clock_answer}
+use Rattle.receiver.specs.Clock.{step_answer}
 use Rattle.receiver.proofs.Unchecked.{step_is_clock}
 use Rattle.whole_frame.specs.WholeFrame.{clocks_answer}
 

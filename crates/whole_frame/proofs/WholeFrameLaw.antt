@@ -1,6 +1,5 @@
 -- A whole frame on a receiver that waits is the one that finishes; and what comes after. Assumes nothing.
 use mathlib.Core.Path.{◌≡◌, refl, sym, ap, ◌∙◌}
-use mathlib.Core.Logic.{◌≢◌}
 use mathlib.Core.Bool.{true}
 use mathlib.Core.List.{List, [], ◌∷◌}
 use lib.Dec.{lit≤}
@@ -16,7 +15,6 @@ use Rattle.receiver_state.specs.declared.Receiver.{Receiver}
 use Rattle.receiver_state.specs.State.{receiver}
 use Rattle.receiver_state.specs.WellFormed.{well_formed}
 use Rattle.receiver_state.proofs.WellFormed.{receiver_facts}
-use Rattle.channel_b.specs.TakeBit.{Waits}
 use Rattle.channel_b.proofs.Laws.{waits_law}
 use Rattle.verdicts.proofs.Laws.{not_zero}
 use Rattle.receiver.specs.declared.ClockAnswer.{ClockAnswer}

@@ -1,5 +1,5 @@
 -- `line_report::end_last` meets its contract: the test picks the same row of the definition. Assumes nothing.
-use Rattle.std.proofs.Common.{sym, refl, ap, ◌∙◌, add-zero, arith, rules, eq-eqb, ne_eqb}
+use Rattle.std.proofs.Common.{refl, ap, ◌∙◌, arith, eq-eqb, ne_eqb}
 use Rattle.frame.specs.Columns.{columns_of}
 use Rattle.line_report.specs.Report.{read_part, line_ended, after_last, last_prints}
 use Rattle.line_report.proofs.Bounds.{part_small, line_length_lem}

@@ -1,5 +1,5 @@
 -- `line_report::end_line` meets its contract: it is made of the definitions that the calls give. Assumes nothing.
-use Rattle.std.proofs.Common.{◌≡◌, ℕ, sym, refl, ap, ◌∙◌, subst, ap₂, rules}
+use Rattle.std.proofs.Common.{sym, refl, ap, ◌∙◌, subst}
 use Rattle.whole_frame.specs.WholeFrame.{LeftWanting}
 use Rattle.frame.specs.Columns.{columns_of}
 use Rattle.line_report.specs.Output.{ones_sent}

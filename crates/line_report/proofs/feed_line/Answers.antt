@@ -1,5 +1,4 @@
 -- `line_report::feed_line` meets its contract: each arm knows the line. Assumes nothing.
-use Rattle.std.proofs.Common.{rules}
 use Rattle.line_report.proofs.feed_line.Goals as goal
 
 pub returns-in-Frame : goal.returns-in-Frame

@@ -1,5 +1,5 @@
 -- `line_report::report_end` meets its contract: the last line, then the counts. Assumes nothing.
-use Rattle.std.proofs.Common.{◌≡◌, ◌+◌, ◌≤◌, length, sym, refl, ap, ◌∙◌, arith, rules, le-ltb, lt-ltb}
+use Rattle.std.proofs.Common.{refl, arith, rules, lt-ltb}
 use Rattle.line_report.proofs.Turn.{counts_room, all_ended}
 use Rattle.line_report.specs.Report.{longest_end, end_work, end_wanted}
 use Rattle.line_report.proofs.report_end.Goals as goal

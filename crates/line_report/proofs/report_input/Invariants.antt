@@ -1,9 +1,7 @@
 -- `line_report::report_input` meets its contract. The invariant: what comes of it all is what was to come at the beginning. Assumes nothing.
-use Rattle.std.proofs.Common.{◌≡◌, ℕ, ◌-◌, ◌<◌, ◌≤◌, length, sym, refl, ap, ◌∙◌, arith, rules}
+use Rattle.std.proofs.Common.{◌≡◌, ◌-◌, ◌≤◌, length}
 use Rattle.frame.specs.Columns.{columns_of}
 use Rattle.line_report.specs.Turn.{finished_from}
-use Rattle.line_report.proofs.Turn.{all_to_do, used_up, no_more_room}
-use Rattle.line_report.proofs.Write.{kept_length}
 use Rattle.line_report.proofs.report_input.Given as goal
 
 abbrev pub invariant-loop-done : goal.invariant-loop-done

@@ -1,5 +1,5 @@
 -- `line_report::report_line` meets its contract: it is one turn, with a line feed or without. Assumes nothing.
-use Rattle.std.proofs.Common.{◌≡◌, ◌≤◌, length, sym, arith, length-take, length-take-le, rules}
+use Rattle.std.proofs.Common.{◌≤◌, length, sym, arith, length-take-le, rules}
 use Rattle.frame.specs.Columns.{columns_of}
 use Rattle.line_report.proofs.Turn.{until_le, rest_read, code_end, code_within, code_room, code_feed}
 use Rattle.line_report.proofs.Turn.{code_end, code_within, code_room, code_feed}

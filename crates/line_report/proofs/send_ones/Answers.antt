@@ -1,5 +1,5 @@
 -- `line_report::send_ones` meets its contract: after verdict 7 the 41 ones are done at once. Assumes nothing.
-use Rattle.std.proofs.Common.{sym, ◌∙◌, rules}
+use Rattle.std.proofs.Common.{sym, ◌∙◌}
 use Rattle.laws.proofs.Rules.{picks}
 use Rattle.line_report.specs.Output.{ones_sent}
 use Rattle.line_report.proofs.Ones.{ones_follow}

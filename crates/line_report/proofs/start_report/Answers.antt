@@ -1,5 +1,5 @@
 -- `line_report::start_report` meets its contract: 5 and 5 are IDs in range. Assumes nothing.
-use Rattle.std.proofs.Common.{◌≡◌, refl, ◌∙◌, ap₂, rules}
+use Rattle.std.proofs.Common.{◌≡◌, refl, ◌∙◌, ap₂}
 use Rattle.receiver_state.specs.State.{ids, fresh_state, fresh_of, fresh_answer}
 use Rattle.receiver_state.specs.declared.FreshAnswer.{FreshAnswer}
 use Rattle.line_report.specs.declared.LinePart.{LinePart}

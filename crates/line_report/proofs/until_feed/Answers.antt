@@ -1,5 +1,5 @@
 -- `line_report::until_feed` meets its contract. The invariant: none of the bytes passed is a line feed, so those before the first one are these and those still to come. Assumes nothing.
-use Rattle.std.proofs.Common.{◌≡◌, ℕ, suc, ◌+◌, ◌-◌, ◌<◌, ◌≤◌, ◌≢◌, List, length, get_or, drop, sym, refl, ap, ◌∙◌, add-zero, zero-add, add-one, arith, drop_of_length-le, drop-cons, rules, eq-eqb, ne_eqb}
+use Rattle.std.proofs.Common.{◌≡◌, ℕ, suc, ◌+◌, ◌<◌, ◌≢◌, List, length, get_or, drop, sym, refl, ap, ◌∙◌, add-zero, zero-add, add-one, arith, drop_of_length-le, drop-cons, rules, eq-eqb, ne_eqb}
 use Rattle.line_report.specs.Report.{until_feed}
 use Rattle.line_report.proofs.until_feed.Goals as goal
 

@@ -4,7 +4,6 @@ use lib.Dec.{lit≤}
 use lib.Seq.{length-take-le}
 use Rattle.laws.proofs.Rules.{picks}
 use Rattle.receiver.specs.Clock.{clock_answer}
-use borrow.Author.Rules.{rules}
 use Rattle.receiver.proofs.clock.Goals as goal
 
 pub returns-then-not-well_formed : goal.returns-then-not-well_formed

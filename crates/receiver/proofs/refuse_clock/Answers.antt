@@ -1,6 +1,5 @@
 -- `receiver::refuse_clock` meets its contract. Assumes nothing.
 use mathlib.Core.Path.{refl}
-use borrow.Author.Rules.{rules}
 use Rattle.receiver.proofs.refuse_clock.Goals as goal
 
 pub returns : goal.returns

@@ -1,7 +1,6 @@
 -- `receiver_with_columns::clock_over` meets its contract: at each exit the tests that led there pick the same row of the definition. Assumes nothing.
 use Rattle.laws.proofs.Rules.{picks}
 use Rattle.receiver.specs.Clock.{clock_answer}
-use borrow.Author.Rules.{rules}
 use Rattle.receiver_with_columns.proofs.clock_over.Goals as goal
 
 pub returns-then-not-well_formed : goal.returns-then-not-well_formed

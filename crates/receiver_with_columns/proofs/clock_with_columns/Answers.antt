@@ -13,7 +13,6 @@ use Rattle.receiver.specs.declared.ClockAnswer.{ClockAnswer}
 use Rattle.receiver_with_columns.specs.declared.ClockWithIndex.{ClockWithIndex}
 use Rattle.receiver_with_columns.specs.WithColumns.{clock_with_columns}
 use Rattle.receiver_with_columns.proofs.Before.{clock_by_2, accepted_clock, refused_clock_lem}
-use borrow.Author.Rules.{rules}
 use Rattle.receiver_with_columns.proofs.clock_with_columns.Goals as goal
 
 -- an answer with index 0

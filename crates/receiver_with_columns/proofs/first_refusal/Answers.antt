@@ -1,6 +1,5 @@
 -- `receiver_with_columns::first_refusal` meets its contract. Assumes nothing.
 use Rattle.laws.proofs.Rules.{picks}
-use borrow.Author.Rules.{rules}
 use Rattle.receiver_with_columns.proofs.first_refusal.Goals as goal
 
 pub returns-then-not-well_formed : goal.returns-then-not-well_formed

@@ -7,7 +7,6 @@ use Rattle.frame.specs.Columns.{columns_for}
 use Rattle.whole_frame.specs.WholeFrame.{receive_answer}
 use Rattle.whole_frame.specs.ByFormat.{receive_by_format}
 use Rattle.whole_frame.proofs.ByFormatLaws.{accepted_format}
-use borrow.Author.Rules.{rules}
 use Rattle.receiver_with_columns.proofs.receive_by_format_over.Goals as goal
 
 pub returns-then-not-well_formed : goal.returns-then-not-well_formed

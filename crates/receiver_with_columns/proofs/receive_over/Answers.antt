@@ -12,7 +12,6 @@ use Rattle.frame.specs.Bits.{bits_of}
 use Rattle.receiver_state.specs.WellFormed.{well_formed}
 use Rattle.receiver_state.proofs.WellFormed.{receiver_facts}
 use Rattle.whole_frame.specs.WholeFrame.{clocks_answer, no_clock, receive_answer}
-use borrow.Author.Rules.{rules}
 use Rattle.receiver_with_columns.proofs.receive_over.Goals as goal
 
 few : (kind : Kind) → frame_bits kind ≤ 64

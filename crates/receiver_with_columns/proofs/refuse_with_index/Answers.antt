@@ -1,9 +1,5 @@
 -- `receiver_with_columns::refuse_with_index` meets its contract. Assumes nothing.
 use Rattle.receiver_with_columns.proofs.refuse_with_index.Goals as goal
 
-use borrow.Author.Rules.{rules}
-use Rattle.receiver_with_columns.proofs.refuse_with_index.Statement.{statement}
-use Rattle.receiver_with_columns.proofs.refuse_with_index.Tie as tie
-
 pub returns : goal.returns
 returns c = rw (c.refuse_clock-answer.ensures, c.first_refusal-first.ensures)

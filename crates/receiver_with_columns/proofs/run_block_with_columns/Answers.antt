@@ -12,7 +12,6 @@ use Rattle.trace.specs.Block.{BlockDone, run_block}
 use Rattle.receiver_with_columns.specs.WithColumns.{BlockDoneWithIndex, run_block_with_columns}
 use Rattle.receiver_with_columns.proofs.Before.{block_by_2, accepted_block_lem, refused_block_lem}
 use Rattle.receiver_with_columns.specs.WithColumns.{run_block_with_columns}
-use borrow.Author.Rules.{rules}
 use Rattle.receiver_with_columns.proofs.run_block_with_columns.Goals as goal
 
 -- what a block leaves and answers, with index 0

@@ -2,7 +2,6 @@
 use mathlib.Core.Path.{sym, ap, ap₂, ◌∙◌}
 use Rattle.receiver.specs.Clock.{clocked_answer}
 use Rattle.receiver.proofs.Unchecked.{unfinished_step, finished_step}
-use borrow.Author.Rules.{rules}
 use Rattle.receiver_with_columns.proofs.step_over.Goals as goal
 
 pub returns-in-Unfinished : goal.returns-in-Unfinished

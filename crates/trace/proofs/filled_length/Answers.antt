@@ -4,7 +4,6 @@ use native.Mathlib.Omega.{arith}
 use borrow.Author.Tests.{le-leb, lt-leb}
 use Rattle.trace.specs.Record.{record_numbers}
 use Rattle.trace.specs.Filled.{filled_length}
-use borrow.Author.Rules.{rules}
 use Rattle.trace.proofs.filled_length.Goals as goal
 
 pub returns-then-records-room : goal.returns-then-records-room

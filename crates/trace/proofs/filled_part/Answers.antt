@@ -2,7 +2,6 @@
 use mathlib.Core.Path.{refl, sym}
 use lib.Seq.{length-take-le}
 use Rattle.trace.proofs.Filled.{within}
-use borrow.Author.Rules.{rules}
 use Rattle.trace.proofs.filled_part.Goals as goal
 
 pub slice_bounds-result-end : goal.slice_bounds-result-end

@@ -1,12 +1,8 @@
 -- `trace::run_block` meets its contract: the columns lent are document 01's table. Assumes nothing.
 use Rattle.trace.proofs.run_block.Goals as goal
-
 use mathlib.Core.Path.{sym}
 use lib.Dec.{lit≤}
 use lib.Seq.{length-take-le}
-use borrow.Author.Rules.{rules}
-use Rattle.trace.proofs.run_block.Statement.{statement}
-use Rattle.trace.proofs.run_block.Tie as tie
 
 pub slice_bounds-run_block_over-end : goal.slice_bounds-run_block_over-end
 slice_bounds-run_block_over-end c = sym (length-take-le 8 c.column_table-short.result (rw c.column_table-short.ensures (lit≤ tt)))

@@ -1,11 +1,9 @@
 -- `trace::run_block_over` meets its contract: at each exit the tests that led there pick the same row of the definition. Assumes nothing.
-use mathlib.Core.Path.{◌≡◌, sym, ap}
+use mathlib.Core.Path.{◌≡◌, ap}
 use mathlib.Core.List.{List}
 use Prim.Native.Nat.{ℕ, ◌*◌, ◌≤◌}
 use native.Mathlib.Omega.{arith}
-use lib.Dec.{lit≤}
 use lib.ListN.{length}
-use lib.Seq.{length-take-le}
 use Rattle.laws.proofs.Rules.{granted, picks}
 use Rattle.hamming.specs.Code.{in_use}
 use Rattle.frame.specs.Columns.{columns_for}

@@ -3,7 +3,6 @@ use mathlib.Core.Path.{ap, ◌∙◌}
 use Rattle.receiver_state.specs.declared.Core.{Core}
 use Rattle.receiver_state.specs.State.{receiver, nothing_held}
 use Rattle.idle_clock.specs.AtRest.{rest_for}
-use borrow.Author.Rules.{rules}
 use Rattle.whole_frame.proofs.after_41_ones.Goals as goal
 
 pub returns : goal.returns

@@ -1,19 +1,12 @@
 -- `whole_frame::receive_bits` meets its contract. The invariant: the clocks still to come, on what the last one answered, answer as all of them.
 -- Assumes nothing.
-use mathlib.Core.Path.{◌≡◌, refl, sym, ap, subst, ◌∙◌}
-use Prim.Native.Nat.{ℕ, suc, ◌-◌, ◌<◌, ◌≤◌}
-use native.Mathlib.Nat.{mod-lt}
-use native.Mathlib.Omega.{arith}
-use lib.Dec.{lit<}
+use mathlib.Core.Path.{◌≡◌}
+use Prim.Native.Nat.{◌≤◌}
 use Rattle.hamming.specs.Code.{in_use}
 use Rattle.frame.specs.Columns.{columns_for}
 use Rattle.frame.specs.Bits.{bits_of}
 use Rattle.receiver_state.specs.WellFormed.{ReceiverFacts}
-use Rattle.receiver.specs.declared.ClockAnswer.{ClockAnswer}
-use Rattle.receiver.proofs.Keep.{step_facts}
 use Rattle.whole_frame.specs.WholeFrame.{clocks_answer}
-use Rattle.whole_frame.proofs.WholeFrame.{clock_more}
-use borrow.Author.Rules.{rules}
 use Rattle.whole_frame.proofs.receive_bits.Given as goal
 
 abbrev pub invariant-loop-left : goal.invariant-loop-left

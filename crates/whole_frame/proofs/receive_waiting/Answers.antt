@@ -7,7 +7,6 @@ use Rattle.verdicts.specs.Finished.{finished}
 use Rattle.receiver.specs.Clock.{clocked_answer}
 use Rattle.whole_frame.specs.WholeFrame.{settled_clock}
 use Rattle.whole_frame.proofs.AtOnce.{at_once}
-use borrow.Author.Rules.{rules}
 use Rattle.whole_frame.proofs.receive_waiting.Goals as goal
 
 pub returns : goal.returns

@@ -1,6 +1,5 @@
 -- `line_report::part::read_behind` meets its contract: a line that is not cut is read as it stands. Assumes nothing.
 use Rattle.std.proofs.Common.{◌≡◌, ℕ, length, sym, ap, ◌∙◌, rules}
-use Rattle.stored_line.specs.declared.StoredLine.{StoredLine}
 use Rattle.line_report.specs.Report.{line_part, with_characters, read_part}
 use Rattle.line_report.proofs.LineSoFar.{uncut}
 use Rattle.line_report.proofs.part.read_behind.Goals as goal

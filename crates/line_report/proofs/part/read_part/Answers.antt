@@ -1,5 +1,5 @@
 -- `line_report::part::read_part` meets its contract: the test picks the same row of the definition. Assumes nothing.
-use Rattle.std.proofs.Common.{refl, rules, le-ltb, lt-ltb}
+use Rattle.std.proofs.Common.{refl, le-ltb, lt-ltb}
 use Rattle.line_report.specs.Report.{read_part}
 use Rattle.line_report.proofs.part.read_part.Goals as goal
 

@@ -1,5 +1,5 @@
 -- `line_report::part::with_character` meets its contract: the test picks the same row of the definition. Assumes nothing.
-use Rattle.std.proofs.Common.{refl, rules, le-ltb, lt-ltb}
+use Rattle.std.proofs.Common.{refl, le-ltb, lt-ltb}
 use Rattle.line_report.specs.Report.{with_character}
 use Rattle.line_report.proofs.part.with_character.Goals as goal
 

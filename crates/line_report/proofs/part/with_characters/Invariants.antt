@@ -1,7 +1,6 @@
 -- `line_report::part::with_characters` meets its contract. The invariant: the characters still to come, behind those taken, are all of them. Assumes nothing.
-use Rattle.std.proofs.Common.{◌≡◌, ℕ, suc, ◌+◌, ◌-◌, ◌<◌, ◌≤◌, List, length, get_or, drop, sym, refl, ap, ◌∙◌, add-one, arith, drop_of_length-le, drop-cons, rules}
-use Rattle.line_report.specs.declared.LinePart.{LinePart}
-use Rattle.line_report.specs.Report.{with_character, with_characters}
+use Rattle.std.proofs.Common.{◌≡◌, ◌-◌, ◌≤◌, length, drop}
+use Rattle.line_report.specs.Report.{with_characters}
 use Rattle.line_report.proofs.part.with_characters.Given as goal
 
 abbrev pub invariant-loop-at : goal.invariant-loop-at

@@ -1,5 +1,5 @@
 -- `line_report::text::put_decimal` meets its contract: the digits of the number without its last one, and then that one.
-use Rattle.std.proofs.Common.{◌<◌, arith}
+use Rattle.std.proofs.Common.{arith}
 use Rattle.line_report.proofs.Decimal.{only_room, only_stored, first_room, last_room, last_stored}
 use Rattle.line_report.proofs.text.+put_decimal.Goals as goal
 

@@ -1,5 +1,5 @@
 -- `line_report::text::put_answer` meets its contract: the test that led to each exit picks the same text of the definition. Assumes nothing.
-use Rattle.std.proofs.Common.{rules, eq-eqb, ne_eqb}
+use Rattle.std.proofs.Common.{eq-eqb, ne_eqb}
 use Rattle.line_report.specs.Text.{answer_text}
 use Rattle.line_report.proofs.text.put_answer.Goals as goal
 

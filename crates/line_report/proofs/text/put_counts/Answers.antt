@@ -1,7 +1,7 @@
 -- `line_report::text::put_counts` meets its contract: four fields. Assumes nothing.
-use Rattle.std.proofs.Common.{[], ◌∷◌, ◌++◌, rules}
+use Rattle.std.proofs.Common.{◌∷◌, ◌++◌}
 use Rattle.line_report.specs.Text.{decimal, counts_text}
-use Rattle.line_report.proofs.Write.{then_text, room_first, room_then, room_one}
+use Rattle.line_report.proofs.Write.{then_text, room_first, room_then}
 use Rattle.line_report.proofs.text.put_counts.Goals as goal
 
 pub put_field-after_single-requires : goal.put_field-after_single-requires

@@ -1,5 +1,5 @@
 -- `line_report::text::put_end` meets its contract: three letters, the counts and a line feed. Assumes nothing.
-use Rattle.std.proofs.Common.{[], ◌∷◌, ◌++◌, rules}
+use Rattle.std.proofs.Common.{[], ◌∷◌, ◌++◌}
 use Rattle.line_report.specs.Text.{counts_text, end_text}
 use Rattle.line_report.proofs.Write.{then_text, text_below, room_first, room_then, room_one}
 use Rattle.line_report.proofs.text.put_end.Goals as goal

@@ -1,7 +1,7 @@
 -- `line_report::text::put_field` meets its contract: a space, then the digits. Assumes nothing.
-use Rattle.std.proofs.Common.{[], ◌∷◌, ◌++◌, rules}
+use Rattle.std.proofs.Common.{[], ◌∷◌}
 use Rattle.line_report.specs.Text.{decimal}
-use Rattle.line_report.proofs.Write.{then_text, room_first, room_then, room_one}
+use Rattle.line_report.proofs.Write.{then_text, room_then, room_one}
 use Rattle.line_report.proofs.text.put_field.Goals as goal
 
 pub put-next-requires : goal.put-next-requires

@@ -1,5 +1,5 @@
 -- `line_report::text::put_line` meets its contract: number, space, answer and line feed. Assumes nothing.
-use Rattle.std.proofs.Common.{[], ◌∷◌, ◌++◌, rules}
+use Rattle.std.proofs.Common.{[], ◌∷◌, ◌++◌}
 use Rattle.line_report.specs.Text.{decimal, answer_text, line_text}
 use Rattle.line_report.proofs.Write.{then_text, room_first, room_then, room_one}
 use Rattle.line_report.proofs.text.put_line.Goals as goal

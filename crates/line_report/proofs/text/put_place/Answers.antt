@@ -1,5 +1,4 @@
 -- `line_report::text::put_place` meets its contract: by the test of the verdict, a field or nothing. Assumes nothing.
-use Rattle.std.proofs.Common.{rules}
 use Rattle.laws.proofs.Rules.{said}
 use Rattle.line_report.specs.Text.{place_text}
 use Rattle.line_report.proofs.Write.{nothing_stored}

@@ -1,7 +1,7 @@
 -- `line_report::text::put_refusal` meets its contract: the mark, then a field. Assumes nothing.
-use Rattle.std.proofs.Common.{[], ◌∷◌, ◌++◌, rules}
+use Rattle.std.proofs.Common.{[], ◌∷◌}
 use Rattle.line_report.specs.Text.{decimal, refusal_text}
-use Rattle.line_report.proofs.Write.{then_text, room_first, room_then, room_one}
+use Rattle.line_report.proofs.Write.{then_text, room_then, room_one}
 use Rattle.line_report.proofs.text.put_refusal.Goals as goal
 
 pub put-after_mark-requires : goal.put-after_mark-requires

@@ -1,5 +1,5 @@
 -- `line_report::text::put_verdict` meets its contract: verdict, flag, word and place. Assumes nothing.
-use Rattle.std.proofs.Common.{[], ◌∷◌, ◌++◌, rules}
+use Rattle.std.proofs.Common.{[], ◌∷◌, ◌++◌}
 use Rattle.line_report.specs.Text.{decimal, word_text, place_text, verdict_text}
 use Rattle.line_report.proofs.Write.{then_text, room_first, room_then, room_one}
 use Rattle.line_report.proofs.text.put_verdict.Goals as goal

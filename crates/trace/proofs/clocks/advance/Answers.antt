@@ -3,7 +3,6 @@ use Prim.Native.Nat.{◌<◌}
 use native.Mathlib.Omega.{arith}
 use lib.ListN.{length}
 use Rattle.trace.proofs.Rest.{advanced_last, advanced_clock}
-use borrow.Author.Rules.{rules}
 use Rattle.trace.proofs.clocks.advance.Goals as goal
 
 pub returns-then-place-block : goal.returns-then-place-block

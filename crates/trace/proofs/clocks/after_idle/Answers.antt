@@ -2,7 +2,6 @@
 use mathlib.Core.Path.{ap, ◌∙◌}
 use Rattle.receiver_state.specs.declared.Held.{Held}
 use Rattle.trace.specs.Run.{rest_progress}
-use borrow.Author.Rules.{rules}
 use Rattle.trace.proofs.clocks.after_idle.Goals as goal
 
 pub returns : goal.returns

@@ -1,6 +1,5 @@
 -- `trace::clocks::after_rest` meets its contract. Assumes nothing.
 use mathlib.Core.Path.{refl}
-use borrow.Author.Rules.{rules}
 use Rattle.trace.proofs.clocks.after_rest.Goals as goal
 
 pub returns : goal.returns

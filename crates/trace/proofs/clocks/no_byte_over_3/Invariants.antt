@@ -1,15 +1,12 @@
 -- `trace::clocks::no_byte_over_3` meets its contract. The invariant: the sum so far is 0, and the bytes to come pass, exactly if all bytes pass.
 -- Assumes nothing.
-use mathlib.Core.Path.{refl, ◌≡◌, sym, ap, ◌∙◌}
-use mathlib.Core.Bool.{Bool, ◌&&◌}
+use mathlib.Core.Path.{◌≡◌}
+use mathlib.Core.Bool.{◌&&◌}
 use Prim.Native.Nat.{◌*◌, ◌-◌, ◌≤◌}
-use native.Mathlib.Omega.{arith}
 use lib.Dec.{eqb}
 use lib.ListN.{length}
 use Rattle.trace.specs.Block.{block_clocks, no_byte_over_3}
-use Rattle.laws.proofs.Rules.{and_last}
-use Rattle.trace.proofs.InRange.{passes_from, at_first, at_last, next_byte}
-use borrow.Author.Rules.{rules}
+use Rattle.trace.proofs.InRange.{passes_from}
 use Rattle.trace.proofs.clocks.no_byte_over_3.Given as goal
 
 abbrev pub invariant-loop-i : goal.invariant-loop-i

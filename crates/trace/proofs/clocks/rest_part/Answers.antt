@@ -1,7 +1,6 @@
 -- `trace::clocks::rest_part` meets its contract. Assumes nothing.
 use Rattle.laws.proofs.Rules.{granted}
 use Rattle.trace.proofs.Rest.{rested_then}
-use borrow.Author.Rules.{rules}
 use Rattle.trace.proofs.clocks.rest_part.Goals as goal
 
 pub idle_part-idle-requires : goal.idle_part-idle-requires

@@ -4,7 +4,6 @@ use Rattle.receiver.specs.declared.ClockAnswer.{ClockAnswer}
 use Rattle.receiver.proofs.Unchecked.{unfinished_step, finished_step}
 use Rattle.trace.specs.Block.{trigger_bit, channel_bit}
 use Rattle.trace.specs.Run.{answered_run}
-use borrow.Author.Rules.{rules}
 use Rattle.trace.proofs.clocks.run_clock.Goals as goal
 
 pub returns-in-Unfinished : goal.returns-in-Unfinished

@@ -1,12 +1,12 @@
 -- `trace::clocks::run_clocks` meets its contract. The invariant: the clocks still to come leave what all of them leave. Assumes nothing.
-use mathlib.Core.Path.{◌≡◌, refl, sym, ap, ◌∙◌}
+use mathlib.Core.Path.{refl, sym, ap, ◌∙◌}
 use mathlib.Core.List.{List}
-use Prim.Native.Nat.{ℕ, ◌-◌}
+use Prim.Native.Nat.{ℕ}
 use native.Mathlib.Omega.{arith}
-use lib.ListN.{length, drop_of_length-le}
+use lib.ListN.{drop_of_length-le}
 use Rattle.hamming.specs.Code.{in_use}
 use Rattle.frame.specs.Columns.{columns_for}
-use Rattle.trace.specs.Run.{clocks_run, ProgressFacts, remaining}
+use Rattle.trace.specs.Run.{clocks_run}
 use borrow.Author.Rules.{rules}
 use Rattle.trace.proofs.clocks.run_clocks.Goals as goal
 

@@ -1,13 +1,10 @@
 -- `trace::clocks::run_clocks` meets its contract. The invariant: the clocks still to come leave what all of them leave. Assumes nothing.
-use mathlib.Core.Path.{◌≡◌, refl, sym, ap, ◌∙◌}
-use mathlib.Core.List.{List}
-use Prim.Native.Nat.{ℕ, ◌-◌}
-use native.Mathlib.Omega.{arith}
-use lib.ListN.{length, drop_of_length-le}
+use mathlib.Core.Path.{◌≡◌}
+use Prim.Native.Nat.{◌-◌}
+use lib.ListN.{length}
 use Rattle.hamming.specs.Code.{in_use}
 use Rattle.frame.specs.Columns.{columns_for}
-use Rattle.trace.specs.Run.{clocks_run, ProgressFacts, remaining}
-use borrow.Author.Rules.{rules}
+use Rattle.trace.specs.Run.{ProgressFacts, remaining}
 use Rattle.trace.proofs.clocks.run_clocks.Given as goal
 
 abbrev pub invariant-loop-progress : goal.invariant-loop-progress

@@ -1,8 +1,7 @@
 -- `trace::clocks::run_finished` meets its contract: a finished frame has a verdict other than 0, and so a record. Assumes nothing.
-use mathlib.Core.Path.{◌≡◌, sym, ap, ap₂, subst, ◌∙◌}
+use mathlib.Core.Path.{◌≡◌, sym, ap₂, subst, ◌∙◌}
 use mathlib.Core.Bool.{true}
 use Rattle.hamming.specs.Code.{in_use}
-use Rattle.frame.specs.declared.Answer.{Answer}
 use Rattle.frame.specs.Columns.{columns_for}
 use Rattle.receiver_state.specs.declared.Held.{Held}
 use Rattle.receiver_state.specs.declared.Clocked.{Clocked}
@@ -11,7 +10,6 @@ use Rattle.receiver.specs.Clock.{clocked_answer}
 use Rattle.trace.specs.Block.{recorded}
 use Rattle.trace.specs.Run.{answered_run}
 use Rattle.trace.proofs.Run.{frame_recorded, with_record_lem}
-use borrow.Author.Rules.{rules}
 use Rattle.trace.proofs.clocks.run_finished.Goals as goal
 
 pub returns : goal.returns

@@ -1,9 +1,5 @@
 -- `trace::clocks::run_idle` meets its contract. The invariant: the clocks passed were idle. Assumes nothing.
-use Prim.Native.Nat.{◌-◌}
-use native.Mathlib.Omega.{arith}
-use lib.ListN.{length}
-use Rattle.trace.proofs.Rest.{IdleTo, idle_first, idle_next, idle_last_lem}
-use borrow.Author.Rules.{rules}
+use Rattle.trace.proofs.Rest.{idle_first, idle_next, idle_last_lem}
 use Rattle.trace.proofs.clocks.run_idle.Goals as goal
 
 pub loop-at-init : goal.loop-at-init

@@ -1,9 +1,7 @@
 -- `trace::clocks::run_idle` meets its contract. The invariant: the clocks passed were idle. Assumes nothing.
 use Prim.Native.Nat.{◌-◌}
-use native.Mathlib.Omega.{arith}
 use lib.ListN.{length}
-use Rattle.trace.proofs.Rest.{IdleTo, idle_first, idle_next, idle_last_lem}
-use borrow.Author.Rules.{rules}
+use Rattle.trace.proofs.Rest.{IdleTo}
 use Rattle.trace.proofs.clocks.run_idle.Given as goal
 
 abbrev pub invariant-loop-at : goal.invariant-loop-at

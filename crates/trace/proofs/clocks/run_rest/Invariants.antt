@@ -1,11 +1,8 @@
 -- `trace::clocks::run_rest` meets its contract. The invariant: the clocks passed were at rest, and all but what is held is as at the first of
 -- them, but for the bunch counter. Assumes nothing.
-use mathlib.Core.Path.{sym, ◌∙◌}
 use Prim.Native.Nat.{◌-◌}
-use native.Mathlib.Omega.{arith}
 use lib.ListN.{length}
-use Rattle.trace.proofs.Rest.{RestTo, rest_first, rest_next, rest_last}
-use borrow.Author.Rules.{rules}
+use Rattle.trace.proofs.Rest.{RestTo}
 use Rattle.trace.proofs.clocks.run_rest.Given as goal
 
 abbrev pub invariant-loop-at : goal.invariant-loop-at

@@ -8,7 +8,6 @@ use Rattle.receiver.specs.Clock.{clocked_answer}
 use Rattle.trace.specs.Block.{recorded}
 use Rattle.trace.specs.Run.{answered_run}
 use Rattle.trace.proofs.Run.{trigger_recorded, nothing_recorded, with_record_lem, without_record}
-use borrow.Author.Rules.{rules}
 use Rattle.trace.proofs.clocks.run_unfinished.Goals as goal
 
 pub returns-then-trigger-eq1 : goal.returns-then-trigger-eq1

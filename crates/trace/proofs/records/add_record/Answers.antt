@@ -3,7 +3,6 @@ use mathlib.Core.Path.{ap₂}
 use native.Mathlib.Numerals.{add-one}
 use Rattle.trace.specs.Run.{run_done}
 use Rattle.trace.proofs.FiveNumbers.{tail_set}
-use borrow.Author.Rules.{rules}
 use Rattle.trace.proofs.records.add_record.Goals as goal
 
 pub returns : goal.returns

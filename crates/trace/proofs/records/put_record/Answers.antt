@@ -2,7 +2,6 @@
 use lib.ListN.{length-set}
 use native.Mathlib.Omega.{arith}
 use Rattle.trace.proofs.FiveNumbers.{five_set}
-use borrow.Author.Rules.{rules}
 use Rattle.trace.proofs.records.put_record.Goals as goal
 
 pub bounds-free-1 : goal.bounds-free-1
