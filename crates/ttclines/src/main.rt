@@ -2,12 +2,14 @@
 // `line_report`, and writes what that reports. The contract of `report_whole` says that one call uses
 // up the piece that it is given.
 #![tactic(auto)]
+
 ghost use Rattle.std.specs.Prelude.{◌≡◌, ◌+◌, ◌*◌, ◌≤◌, length};
 ghost use Rattle.line_report.specs.Report.{longest_line, longest_end};
 
 use line_report::{
     LONGEST_END, LONGEST_LINE, Report, Reported, report_end, report_input, start_report,
 };
+use std::io::Read;
 
 // What is kept between two reads: the report, how much of the output buffer is filled, whether the
 // input may go on, and what failed.
@@ -28,7 +30,7 @@ pub struct Room {
 }
 
 // The buffer is written out when less than so much of it is free.
-fn make_room(filled: usize, least: usize, out: &[u8]) -> Room
+fn make_room(rt: &impl Print, filled: usize, least: usize, out: &[u8]) -> Room
     requires { (filled ≤ length out.now) × (least ≤ length out.now) }
     ensures { (result.filled ≤ filled) × (result.filled + least ≤ length out.now) }
 {
@@ -38,10 +40,10 @@ fn make_room(filled: usize, least: usize, out: &[u8]) -> Room
             failed: false,
         };
     }
-    let written = io::write_all(1, &out[..filled]);
+    let written = rt.write_all(&out[..filled]);
     Room {
         filled: 0,
-        failed: !written,
+        failed: written.is_err(),
     }
 }
 
@@ -49,9 +51,8 @@ fn make_room(filled: usize, least: usize, out: &[u8]) -> Room
 fn stopped(before: Progress, filled: usize, read_failed: bool, write_failed: bool) -> Progress
     ensures { result.filled ≡ filled }
 {
-    let report = before.report;
     Progress {
-        report,
+        report: before.report,
         filled,
         more: false,
         read_failed,
@@ -69,19 +70,18 @@ fn report_whole(report: Report, piece: &[u8], from: usize, out: &mut [u8]) -> Re
 }
 
 // The same, after room was made.
-fn report_piece(before: Progress, piece: &[u8], out: &mut [u8]) -> Progress
+fn report_piece(rt: &impl Print, before: Progress, piece: &[u8], out: &mut [u8]) -> Progress
     requires { (before.filled ≤ length out.old) × (length piece.now ≤ 4096) × (longest_line * 4096 ≤ length out.old) }
     ensures { result.filled ≤ length out.new }
 {
-    let room = make_room(before.filled, LONGEST_LINE * 4096, out);
+    let room = make_room(rt, before.filled, LONGEST_LINE * 4096, out);
     if room.failed {
         return stopped(before, 0, false, true);
     }
     let from = room.filled;
     let done = report_whole(before.report, piece, from, out);
-    let report = done.report;
     Progress {
-        report,
+        report: done.report,
         filled: from + done.written,
         more: true,
         read_failed: false,
@@ -90,36 +90,41 @@ fn report_piece(before: Progress, piece: &[u8], out: &mut [u8]) -> Progress
 }
 
 // One read, and the lines that end in it.
-fn read_piece(before: Progress, input: &mut [u8], out: &mut [u8]) -> Progress
+fn read_piece(
+    rt: &impl Print,
+    stdin: &mut impl Read,
+    before: Progress,
+    input: &mut [u8],
+    out: &mut [u8],
+) -> Progress
     requires { (before.filled ≤ length out.old) × (length input.old ≤ 4096) × (longest_line * 4096 ≤ length out.old) }
     ensures { result.filled ≤ length out.new }
 {
-    let got = libc::read(0, input);
-    if got <= 0 {
-        return stopped(before, before.filled, got < 0, false);
+    match stdin.read(input) {
+        Ok(0) => stopped(before, before.filled, false, false),
+        Ok(count) => report_piece(rt, before, &input[..count], out),
+        Err(_) => stopped(before, before.filled, true, false),
     }
-    let count = io::count(got, input);
-    report_piece(before, &input[..count], out)
 }
 
-// A proved loop has to end, and nothing says that the input does: the turns are counted down from a
-// number of reads that no run reaches.
-fn read_all(input: &mut [u8], out: &mut [u8]) -> Progress
+// A proved loop has to end, and nothing says that the input does: there are more turns than any run
+// makes reads.
+fn read_all(rt: &impl Print, stdin: &mut impl Read, input: &mut [u8], out: &mut [u8]) -> Progress
     requires { (length input.old ≤ 4096) × (longest_line * 4096 ≤ length out.old) }
     ensures { result.filled ≤ length out.new }
 {
-    let start = start_report();
     let mut progress = Progress {
-        report: start,
+        report: start_report(),
         filled: 0,
         more: true,
         read_failed: false,
         write_failed: false,
     };
-    let mut turns = u64::MAX;
-    while turns > 0 && progress.more {
-        progress = read_piece(progress, input, out);
-        turns -= 1;
+    for _ in 0..u64::MAX {
+        if !progress.more {
+            break;
+        }
+        progress = read_piece(rt, stdin, progress, input, out);
     }
     progress
 }
@@ -134,7 +139,7 @@ fn report_last(report: Report, from: usize, out: &mut [u8]) -> usize
 }
 
 // What is left in the buffer, and the end. Answers whether something could not be written.
-fn finish(last: Progress, out: &mut [u8]) -> bool
+fn finish(rt: &(impl Print + Eprint), last: Progress, out: &mut [u8]) -> bool
     requires { (last.filled ≤ length out.old) × (longest_end ≤ length out.old) }
 {
     if last.write_failed {
@@ -142,23 +147,23 @@ fn finish(last: Progress, out: &mut [u8]) -> bool
     }
     let filled = last.filled;
     if last.read_failed {
-        io::write_all(2, b"ttclines: standard input cannot be read\n");
-        return !io::write_all(1, &out[..filled]);
+        let _ = eprintln!(rt; "ttclines: standard input cannot be read");
+        return rt.write_all(&out[..filled]).is_err();
     }
-    let room = make_room(filled, LONGEST_END, out);
+    let room = make_room(rt, filled, LONGEST_END, out);
     if room.failed {
         return true;
     }
     let all = report_last(last.report, room.filled, out);
-    !io::write_all(1, &out[..all])
+    rt.write_all(&out[..all]).is_err()
 }
 
-fn main() {
+fn main(rt: HostRuntime) {
     // The form that document 01 names: the buffer through which standard input is read.
     let mut input = [0u8; 4096];
     let mut out = [0u8; 262144];
-    let last = read_all(&mut input, &mut out);
-    if finish(last, &mut out) {
-        io::write_all(2, b"ttclines: standard output cannot be written\n");
+    let last = read_all(&rt, &mut rt.stdin(), &mut input, &mut out);
+    if finish(&rt, last, &mut out) {
+        let _ = eprintln!(rt; "ttclines: standard output cannot be written");
     }
 }
