@@ -1,9 +1,9 @@
 -- Quiet after a bad stop, over lists of calls. Assumes nothing.
 use mathlib.Core.Path.{◌≡◌, refl, sym, ap, subst, ◌∙◌}
-use mathlib.Core.Logic.{◌⊎◌, inl, inr, ⊎_elim}
-use mathlib.Core.Bool.{true, cond}
+use mathlib.Core.Logic.{inl, inr, ⊎_elim}
+use mathlib.Core.Bool.{true}
 use mathlib.Core.List.{List, [], ◌∷◌, ◌++◌, append_assoc, append-nil}
-use Prim.Native.Nat.{ℕ, zero, suc, ◌+◌, ◌-◌, ◌≤◌, ◌<◌}
+use Prim.Native.Nat.{ℕ, zero, suc, ◌+◌, ◌-◌, ◌≤◌}
 use native.Mathlib.Omega.{arith}
 use borrow.Author.Tests.{eqb-true, eqb-false}
 use lib.Dec.{eqb, lit≤}
@@ -28,11 +28,11 @@ use Rattle.receiver.specs.Laws.{ClockLaws}
 use Rattle.receiver.proofs.Laws.{clock_theorem}
 use Rattle.guarantees.specs.Calls.{Call, clock, read, write, call, run, answers, refusal_of, carried, channel_b, idle_call, idle}
 use Rattle.guarantees.specs.FrameLists.{AsIdleBefore}
-use Rattle.guarantees.specs.BadStop.{ones_after, ones_at_end, LastOnes, OnesAtEndLaw, No41InARow, First41st, BadStop, Quiet, QuietAfter, WaitsThen, WaitsAt41st, BadStopTheorem, ReceiverBadStop}
+use Rattle.guarantees.specs.BadStop.{ones_after, ones_at_end, LastOnes, OnesAtEndLaw, No41InARow, First41st, BadStop, Quiet, WaitsThen, BadStopTheorem, ReceiverBadStop}
 use Rattle.guarantees.proofs.HeldBits.{Holds, holds_one_more}
 use Rattle.guarantees.proofs.ChannelB.{channel_b_append, channel_b_bits}
 use Rattle.guarantees.proofs.EveryList.{stays_well_formed, forty_one_ones}
-use Rattle.guarantees.proofs.Beside.{idle_accepted, Follows, follows}
+use Rattle.guarantees.proofs.Beside.{idle_accepted, follows}
 
 -- ---- ones in a row
 

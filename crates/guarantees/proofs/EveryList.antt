@@ -12,7 +12,7 @@ use Rattle.frame.specs.declared.Kind.{Kind}
 use Rattle.frame.specs.Bits.{Bits}
 use Rattle.receiver_state.specs.declared.Held.{Held}
 use Rattle.receiver_state.specs.declared.Receiver.{Receiver}
-use Rattle.receiver_state.specs.State.{receiver, nothing_held}
+use Rattle.receiver_state.specs.State.{nothing_held}
 use Rattle.receiver_state.specs.WellFormed.{well_formed}
 use Rattle.receiver_state.proofs.WellFormed.{receiver_facts}
 use Rattle.receiver_state.proofs.Shown.{shows_nothing}

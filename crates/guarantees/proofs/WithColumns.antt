@@ -1,9 +1,9 @@
 -- Lists of calls whose clock calls are lent columns. Assumes nothing.
-use mathlib.Core.Path.{◌≡◌, refl, sym, ap, subst, ◌∙◌}
-use mathlib.Core.Bool.{true, false, cond}
-use mathlib.Core.List.{List, [], ◌∷◌, ◌++◌}
+use mathlib.Core.Path.{◌≡◌, refl, sym, ap, ◌∙◌}
+use mathlib.Core.Bool.{true, false}
+use mathlib.Core.List.{List, [], ◌∷◌}
 use Prim.Native.Nat.{ℕ}
-use borrow.Author.Tests.{eqb-true, eqb-false, eq-eqb}
+use borrow.Author.Tests.{eqb-true, eqb-false}
 use lib.Dec.{eqb}
 use Rattle.laws.proofs.Rules.{by_test}
 use Rattle.frame.specs.Columns.{GoodTables}
@@ -18,7 +18,7 @@ use Rattle.lent_columns.proofs.Examples.{tables}
 use Rattle.receiver_state.specs.declared.Receiver.{Receiver}
 use Rattle.receiver_state.specs.WellFormed.{well_formed}
 use Rattle.receiver_with_columns.proofs.Laws.{with_columns}
-use Rattle.guarantees.specs.Calls.{Call, clock, read, write, call, run}
+use Rattle.guarantees.specs.Calls.{call, run}
 use Rattle.guarantees.specs.WithColumns.{ColumnsCall, clock_call_lem, read_call, write_call, ResultWithIndex, call_with_columns, run_with_columns}
 use Rattle.guarantees.specs.WithColumns.{Lends, OneTable, kept, kept_calls, answer_over, AsOverColumns, ColumnsTheorem, TwoUses}
 use Rattle.guarantees.specs.Demand3.{Demand3}

@@ -1,15 +1,14 @@
 -- However the input is cut, the calls print it byte for byte; and byte for byte it prints line by line. Assumes nothing.
 use mathlib.Core.Path.{◌≡◌, refl, sym, ap, ap₂, ◌∙◌}
 use mathlib.Core.Logic.{◌≢◌, ◌⊎◌, inl, inr, ⊎_elim}
-use mathlib.Core.Bool.{Bool, true, false}
-use mathlib.Core.List.{List, [], ◌∷◌, ◌++◌, append-nil, append_assoc}
-use Prim.Native.Nat.{ℕ, zero, suc, ◌+◌, ◌-◌, ◌*◌, ◌≤◌, ◌<◌}
-use native.Mathlib.Nat.{add-zero, zero-add}
+use mathlib.Core.Bool.{true, false}
+use mathlib.Core.List.{List, [], ◌∷◌, ◌++◌, append_assoc}
+use Prim.Native.Nat.{ℕ, suc, ◌+◌, ◌-◌, ◌*◌, ◌≤◌, ◌<◌}
 use native.Mathlib.Omega.{arith}
 use borrow.Author.Tests.{lt-ltb, le-ltb, ltb-true, ltb-false, eq-eqb, ne_eqb}
 use lib.Dec.{eqb, ltb}
 use lib.ListN.{length, take, drop, length-append, length-take, length-drop}
-use lib.Seq.{take-append_seam, drop-append_seam, take-take, take-add, take_all, length-take-le, drop-nil}
+use lib.Seq.{take-append_seam, drop-append_seam, take-take, take-add, take_all}
 use Rattle.laws.proofs.Rules.{picked_by, by_test}
 use Rattle.frame.specs.declared.Kind.{Kind}
 use Rattle.receiver_state.specs.declared.Receiver.{Receiver}
@@ -19,10 +18,10 @@ use Rattle.line_report.specs.declared.LinePart.{LinePart}
 use Rattle.line_report.specs.declared.Report.{Report}
 use Rattle.line_report.specs.Text.{core_end_text}
 use Rattle.line_report.specs.Output.{last_line, lines_after, after_line, next_line, line_prints, lines_print, lines_leave, output_of}
-use Rattle.line_report.specs.Report.{no_characters, empty_part, with_character, read_part, report, start_report, line_ended, line_end_prints, after_byte, byte_prints, after_bytes, bytes_print, longest_line, Work, work, behind, work_on, report_done, done_by, room_wanted, report_input, longest_end, after_last, last_prints, end_prints, end_work, end_wanted, report_end}
+use Rattle.line_report.specs.Report.{no_characters, with_character, read_part, report, start_report, line_ended, line_end_prints, after_byte, byte_prints, after_bytes, bytes_print, longest_line, Work, work, behind, work_on, done_by, room_wanted, longest_end, after_last, last_prints, end_prints, end_work, end_wanted, report_end}
 use Rattle.report_laws.specs.Cuts.{Offer, written_by, offered, report_all, GoodOffers, Piece, input_of, offers_of, RoomForAll, WantedNone, WantedLine, WantedHelps, WholeOutput, CutsTheorem, ReportCuts}
 use Rattle.frame.specs.Columns.{columns_of}
-use Rattle.line_report.proofs.LineSoFar.{Kept, Dropped, Holds, none_yet, holds_one, holds_read}
+use Rattle.line_report.proofs.LineSoFar.{Holds, none_yet, holds_one, holds_read}
 use Rattle.line_report.proofs.Work.{no_room, byte_fits, room_for_all}
 use Rattle.line_report.proofs.Turn.{none_wanted, line_wanted}
 

@@ -9,7 +9,7 @@ use lib.Dec.{eqb}
 use Rattle.laws.proofs.Rules.{by_test}
 use Rattle.frame.specs.declared.Kind.{Kind}
 use Rattle.frame.specs.Numbers.{is_frame}
-use Rattle.frame.specs.Columns.{columns_of, GoodTables}
+use Rattle.frame.specs.Columns.{columns_of}
 use Rattle.frame.proofs.Columns.{tables_good}
 use Rattle.receiver_state.specs.declared.Receiver.{Receiver}
 use Rattle.receiver_state.specs.WellFormed.{well_formed}

@@ -25,6 +25,6 @@ pub block_with_index_kept : (r : Receiver) (table block before after : List ℕ)
 block_with_index_kept r table block before after given some e =
     subst
     (λ (x : Receiver). block_done_with (record { answer = record { refusal = given.answer.refusal; receiver = x; records = given.answer.records }; index = given.index }) after
-        ≡ run_block_with_columns r table block before)
+    ≡ run_block_with_columns r table block before)
     (subst (λ (d : BlockDoneWithIndex). d.done.answer.refusal ≢ 0 → d.done.answer.receiver ≡ r) (sym e)
     (λ n. ((with_columns r table).leaves.run_block_lem block before n).receiver_stays) some) e

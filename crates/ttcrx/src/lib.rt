@@ -1,6 +1,7 @@
 // The C interface: one exported function for each entry point, with its full contract.
 // include/ttcrx.h declares them. An answer is a struct or a number, by value.
 #![tactic(auto)]
+
 ghost use Rattle.std.specs.Prelude.{◌≡◌, cond};
 ghost use Rattle.hamming.specs.Columns.{short_columns, long_columns};
 ghost use Rattle.frame.specs.declared.Kind.TheVariants.{Short, Long};

@@ -1,5 +1,4 @@
 -- `ttcrx::ttcrx_read_line` meets its contract, by what its callees ensure. Assumes nothing.
-use borrow.Author.Rules.{rules}
 use Rattle.ttcrx.proofs.ttcrx_read_line.Goals as goal
 
 pub returns : goal.returns
