@@ -20,6 +20,7 @@ pub enum Taken {
 
 // What that many bits, read as this number, are: a whole frame, or a part of one. At 42 bits the
 // format was tested long before, at 16.
+#[tactic(auto, using(laws::proofs::Rules::picks), unfolding(crate::specs::TakeBit::frame_or_part, frame::specs::Numbers::is_frame))]
 fn frame_or_part(count: u8, bits: u64) -> Taken
     ensures { result ≡ frame_or_part count bits }
 {
@@ -81,6 +82,7 @@ fn one_less(wanted: u8) -> u8
 
 // A bit with no frame bit held: a 0 is the start bit, or begins the run of ones again; a 1 is one less
 // to come. So waiting and wanting ones take the same time on an idle line.
+#[tactic(auto, using(laws::proofs::Rules::picks), unfolding(crate::specs::TakeBit::between_frames))]
 fn between_frames(wanted: u8, bit: u8) -> Held
     ensures { result ≡ between_frames wanted bit }
 {
@@ -119,6 +121,7 @@ pub fn take_bit(held: Held, bit: u8) -> Taken
 }
 
 // What a finished frame leaves held: nothing, or after a stop bit of 0 the 41 ones wanted.
+#[tactic(auto, using(laws::proofs::Rules::picks), unfolding(crate::specs::TakeBit::held_after))]
 pub fn held_after(number: u64) -> Held
     ensures { result ≡ held_after number }
 {

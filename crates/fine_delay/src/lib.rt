@@ -46,6 +46,7 @@ fn byte_of(setting: u8) -> u8
 }
 
 // The byte of a setting.
+#[tactic(auto, using(laws::proofs::Rules::picks), unfolding(crate::specs::Delay::setting_to_byte))]
 pub fn delay_byte(setting: u8) -> DelayByte
     ensures { result ≡ setting_to_byte setting }
 {

@@ -124,6 +124,7 @@ pub fn long_word(address: u16, e: u8, sub: u8, data: u8) -> u32
 }
 
 // The individually addressed frame of these fields.
+#[tactic(auto, using(laws::proofs::Rules::picks), unfolding(crate::specs::Encode::encode_long))]
 pub fn encode_long(address: u16, e: u8, sub: u8, data: u8) -> Encoded
     ensures { result ≡ encode_long long_columns address e sub «data» }
 {
@@ -179,6 +180,7 @@ fn fixed_zero(kind: Kind, word: u32) -> bool
 
 // Rows 8, 11 and 9 of the table of verdicts, by the syndrome of these word bits. The decoder's enum is
 // taken apart; the else branch leaves with an uncorrectable verdict, by the number of ones.
+#[tactic(auto, using(laws::proofs::Rules::picks))]
 fn judge_word(columns: &[u8], kind: Kind, word: u32, syndrome: u8) -> Judged
     ensures { result ≡ judged_word kind syndrome (by_syndrome (in_use columns.now) word syndrome) }
 {

@@ -120,6 +120,7 @@ fn flip_bit(data: u32, at: usize) -> u32
 }
 
 // The decoder of a word: what the syndrome says of the received data, in document 01's order.
+#[tactic(auto, using(laws::proofs::Rules::picks, laws::proofs::Powers::one_bit_trailing), unfolding(crate::specs::Code::by_syndrome))]
 pub fn by_syndrome(columns: &[u8], data: u32, syndrome: u8) -> Decoded
     ensures { result ≡ by_syndrome (in_use columns.now) «data» syndrome }
 {

@@ -189,6 +189,7 @@ pub fn encode_short_with_columns(columns: &[u8], data: u8) -> EncodedWithIndex
 }
 
 // The individually addressed frame of these fields.
+#[tactic(auto, using(laws::proofs::Rules::picks, crate::proofs::Laws::whole_table, crate::proofs::Parts::long_in_use), unfolding(crate::specs::Frames::encode_long_with_columns, frame::specs::Encode::encode_long))]
 pub fn encode_long_with_columns(
     columns: &[u8],
     address: u16,

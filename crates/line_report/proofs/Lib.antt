@@ -6,5 +6,6 @@ pub mod Bounds
 mod Ones
 pub mod Keep
 pub mod EndLength
+pub mod Feed
 pub mod Work
 pub mod Turn

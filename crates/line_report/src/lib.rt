@@ -80,6 +80,7 @@ pub fn start_report() -> Report
 }
 
 // How many bytes come before the first line feed.
+#[tactic(auto, using(crate::proofs::Feed::feed_found, crate::proofs::Feed::feed_passed, crate::proofs::Feed::no_feed_left))]
 fn until_feed(bytes: &[u8]) -> usize
     ensures { result ≡ until_feed bytes.now }
 {
@@ -124,6 +125,7 @@ fn feed_line(receiver: Receiver, line: StoredLine) -> ClockAnswer
 
 // Document 02, Q-1: 41 ones follow a line with verdict 7, since the line leaves the receiver wanting
 // them.
+#[tactic(auto, using(laws::proofs::Rules::picks, crate::proofs::Ones::ones_follow), unfolding(crate::specs::Output::ones_sent))]
 fn send_ones(answer: ClockAnswer) -> Receiver
     requires { LeftWanting answer }
     ensures { result ≡ ones_sent columns_of answer }

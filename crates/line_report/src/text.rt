@@ -38,6 +38,7 @@ fn put_field(number: u64, at: usize, out: &mut [u8]) -> usize
 }
 
 // The verdicts whose word is printed as `-`.
+#[tactic(auto, using(laws::proofs::Rules::picks), unfolding(crate::specs::Text::prints_dash, laws::specs::OneOf::one_of))]
 fn prints_dash(verdict: u8) -> bool
     ensures { result ≡ prints_dash verdict }
 {
@@ -61,6 +62,7 @@ fn put_word(digits: usize, shown: Outputs, at: usize, out: &mut [u8]) -> usize
 }
 
 // The verdicts with a place.
+#[tactic(auto, using(laws::proofs::Rules::picks), unfolding(crate::specs::Text::prints_place, laws::specs::OneOf::one_of))]
 fn prints_place(verdict: u8) -> bool
     ensures { result ≡ prints_place verdict }
 {

@@ -69,6 +69,7 @@ pub fn step(short: &[u8], long: &[u8], receiver: Receiver, trigger: u8, data: u8
 }
 
 // One clock, with a bit of channel A, the trigger, and one of channel B, the data.
+#[tactic(auto, using(laws::proofs::Rules::picks), unfolding(crate::specs::Clock::clock_answer))]
 pub fn clock(receiver: Receiver, trigger: u8, data: u8) -> ClockAnswer
     ensures { result ≡ clock_answer columns_of receiver trigger «data» }
 {

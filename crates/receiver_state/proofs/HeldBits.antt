@@ -7,7 +7,7 @@ use native.Mathlib.Nat.{pow-suc, le-div_iff_mul-le, div-eq_of_lt-le, mul-le-mul_
 use native.Mathlib.Omega.{arith}
 use borrow.Author.Tests.{eq-eqb, eqb-true, eqb-false, lt-ltb, ltb-true, ltb-false}
 use lib.Dec.{eqb, ltb}
-use lib.Pow.{pow_pos, pow-add, shl_lt, shr_lt, shl-shr}
+use lib.Pow.{pow_pos, pow_mono, pow-add, shl_lt, shr_lt, shl-shr}
 use Rattle.laws.proofs.Rules.{by_test}
 use Rattle.laws.proofs.Tests.{both}
 use Rattle.frame.specs.declared.Kind.TheVariants.{Short, Long}
@@ -16,6 +16,10 @@ use Rattle.receiver_state.specs.declared.Held.{Held}
 use Rattle.receiver_state.specs.State.{holding, wanting_ones, nothing_held, is_waiting}
 use Rattle.receiver_state.specs.WellFormed.{HeldFacts}
 use Rattle.receiver_state.specs.States.{PartOf, WantsOnes, HeldLaw, WaitingLaw}
+
+-- a number that 41 bits with a first bit of 0 don't reach
+pub over_limit : (count bits : ℕ) → count ≤ 41 → 1099511627776 ≤ bits → 2 ^ count ≤ bits * 2
+over_limit count bits few over = omega (arith, pow_mono few)
 
 -- ---- bits held are the first of a frame: it has 0 for the bits still to come
 

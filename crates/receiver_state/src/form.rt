@@ -34,12 +34,14 @@ fn settings_ok(settings: Settings) -> bool
     settings.config3 % 0x80 == 0x27
 }
 
+#[tactic(auto, using(laws::proofs::Rules::picks), unfolding(laws::specs::Tests::every, crate::specs::WellFormed::counters_ok))]
 fn counters_ok(counters: Counters) -> bool
     ensures { result ≡ counters_ok counters }
 {
     counters.bunch < 0x1000 && counters.event < 0x100_0000
 }
 
+#[tactic(auto, using(laws::proofs::Rules::picks), unfolding(laws::specs::Tests::every, crate::specs::WellFormed::sequence_ok))]
 fn sequence_ok(sequence: Sequence) -> bool
     ensures { result ≡ sequence_ok sequence }
 {
@@ -79,6 +81,7 @@ fn power(n: u8) -> u64
 }
 
 // At most 41 ones are wanted, and none beside frame bits held.
+#[tactic(auto, using(laws::proofs::Rules::picks), unfolding(laws::specs::Tests::every, crate::specs::WellFormed::wanted_ok))]
 fn wanted_ok(count: u8, wanted: u8) -> bool
     ensures { result ≡ wanted_ok count wanted }
 {
@@ -92,6 +95,7 @@ fn wanted_ok(count: u8, wanted: u8) -> bool
 }
 
 // At most 41 bits are held; the first is 0, and none is beyond; from 16 bits on the second is 1.
+#[tactic(auto, using(laws::proofs::Rules::picks, crate::proofs::HeldBits::over_limit), unfolding(laws::specs::Tests::every, crate::specs::WellFormed::bits_ok))]
 fn bits_ok(count: u8, bits: u64) -> bool
     ensures { result ≡ bits_ok count bits }
 {

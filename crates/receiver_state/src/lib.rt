@@ -209,6 +209,7 @@ fn refuse_fresh(refusal: u8) -> FreshAnswer
 }
 
 // The fresh state of these IDs.
+#[tactic(auto, using(laws::proofs::Rules::picks), unfolding(crate::specs::State::fresh_answer))]
 pub fn fresh(id: u16, i2c: u8) -> FreshAnswer
     ensures { result ≡ fresh_answer id i2c }
 {

@@ -149,6 +149,7 @@ fn receive_over(
 }
 
 // A whole frame over these columns, whose kind is given by its format bit.
+#[tactic(auto, using(laws::proofs::Rules::picks, whole_frame::proofs::ByFormatLaws::accepted_format), unfolding(whole_frame::specs::ByFormat::receive_by_format))]
 fn receive_by_format_over(
     short: &[u8],
     long: &[u8],

@@ -13,6 +13,7 @@ use fine_delay::has_setting;
 use receiver_state::Core;
 
 // Whether the number is in the map.
+#[tactic(auto, using(laws::proofs::Rules::picks), unfolding(crate::specs::Map::in_map, laws::specs::OneOf::one_of))]
 pub fn in_map(number: u8) -> bool
     ensures { result ≡ in_map number }
 {
@@ -54,6 +55,7 @@ pub fn read_only(number: u8) -> bool
 }
 
 // A byte for register 0 or 1 that belongs to no fine delay setting.
+#[tactic(auto, using(laws::proofs::Rules::picks), unfolding(crate::specs::Map::without_setting))]
 pub fn without_setting(number: u8, byte: u8) -> bool
     ensures { result ≡ without_setting number byte }
 {
@@ -198,6 +200,7 @@ fn set_config3(value: u8, core: Core) -> Core
 
 // The core after a byte was written to a register. Which writes are refused is for `registers` to
 // say; here a number that is not in the map, or may not be written, changes nothing.
+#[tactic(auto, using(laws::proofs::Rules::picks), unfolding(crate::specs::Change::after_write))]
 pub fn write_byte(core: Core, number: u8, value: u8) -> Core
     ensures { result ≡ after_write core number value }
 {

@@ -110,6 +110,7 @@ fn read_as(kind: Kind, characters: &[u8]) -> StoredLine
 }
 
 // The frame of a line, given as its characters without the line feed.
+#[tactic(auto, using(laws::proofs::Rules::picks), unfolding(crate::specs::Read::read_line))]
 pub fn read_line(characters: &[u8]) -> StoredLine
     ensures { result ≡ read_line characters.now }
 {
@@ -179,6 +180,7 @@ fn write_digits(digits: usize, number: u64, buffer: &mut [u8])
 }
 
 // Writes the last so many digits of a number to the front of the buffer, if it has room for them.
+#[tactic(auto, using(laws::proofs::Rules::picks), unfolding(crate::specs::Digits::hex_written))]
 pub fn write_hex(digits: usize, number: u64, buffer: &mut [u8])
     ensures { buffer.new ≡ hex_written digits number buffer.old }
 {

@@ -76,6 +76,7 @@ pub fn record_of(place: u32, before: Counters, outputs: Outputs) -> TraceRecord
 
 // How many numbers that many records take up; 0 where the buffer has less room. The room is divided,
 // so that no product wraps.
+#[tactic(auto, using(laws::proofs::Rules::picks), unfolding(crate::specs::Filled::filled_length))]
 pub fn filled_length(room: usize, records: usize) -> usize
     ensures { result ≡ filled_length room records }
 {

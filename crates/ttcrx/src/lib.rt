@@ -133,6 +133,7 @@ pub extern "C" fn ttcrx_delay_setting(byte: u8) -> DelaySetting
 }
 
 #[unsafe(no_mangle)]
+#[tactic(auto, using(laws::proofs::Rules::picks))]
 pub extern "C" fn ttcrx_well_formed(receiver: Receiver) -> u8
     ensures { result ≡ cond (well_formed receiver) 1 0 }
 {
@@ -195,6 +196,7 @@ pub extern "C" fn ttcrx_receive_long(receiver: Receiver, number: u64) -> ClockAn
 // keeps its receiver for weeks. The copy is taken once a block, and stored where the block was accepted:
 // a refused one writes no byte of it.
 #[unsafe(no_mangle)]
+#[tactic(auto, using(crate::proofs::Kept::block_kept))]
 pub extern "C" fn ttcrx_run_block(
     receiver: &mut Receiver,
     block: &[u8],
@@ -301,6 +303,7 @@ pub extern "C" fn ttcrx_receive_long_with_columns(
 
 // As `ttcrx_run_block`, with columns.
 #[unsafe(no_mangle)]
+#[tactic(auto, using(crate::proofs::Kept::block_with_index_kept))]
 pub extern "C" fn ttcrx_run_block_with_columns(
     receiver: &mut Receiver,
     columns: &[u8],

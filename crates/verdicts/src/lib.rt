@@ -106,6 +106,7 @@ fn is_foreign(address: u16, id: u16) -> bool
 }
 
 // Which row a good long frame has, in the table's order.
+#[tactic(auto, using(laws::proofs::Rules::picks), unfolding(crate::specs::Table::long_row))]
 fn long_row(fields: Fields, id: u16) -> LongRow
     ensures { result ≡ long_row fields id }
 {

@@ -133,6 +133,7 @@ pub fn kind_of(format: u8) -> Kind
 }
 
 // A whole frame whose kind is given by its format bit, as a line that was read has it.
+#[tactic(auto, using(laws::proofs::Rules::picks, crate::proofs::ByFormatLaws::accepted_format), unfolding(crate::specs::ByFormat::receive_by_format))]
 pub fn receive_by_format(receiver: Receiver, format: u8, number: u64) -> ClockAnswer
     ensures { result ≡ receive_by_format columns_of receiver format number }
 {

@@ -13,17 +13,17 @@ pub loop-i-init : goal.loop-i-init
 loop-i-init c = (search rules, c.requires, search rules, at_first _)
 
 pub overflow_cast-over : goal.overflow_cast-over
-overflow_cast-over c = omega (arith, c.shared_slice_known-1.given c.loop-i.i)
+overflow_cast-over c = omega (arith, c.type_inv.block c.loop-i.i)
 
 pub overflow_add-over : goal.overflow_add-over
-overflow_add-over c = omega (arith, c.shared_slice_known-1.given c.loop-i.i)
+overflow_add-over c = omega (arith, c.type_inv.block c.loop-i.i)
 
 pub loop-i-preserved : goal.loop-i-preserved
 loop-i-preserved c =
     let at = c.loop-i in (
       search rules,
       at.invariant.1,
-      omega (arith, c.shared_slice_known-1.given at.i),
+      omega (arith, c.type_inv.block at.i),
       next_byte _ at.over at.i (search rules) ∙ at.invariant.3,
     )
 
