@@ -37,7 +37,7 @@ count_small : (kind : Kind) → digit_count kind ≤ 11
 count_small Short = omega arith
 count_small Long = omega arith
 
--- ---- the needs
+-- ---- the goals
 
 pub returns-then-not-is_frame : goal.returns-then-not-is_frame
 unfolding write_line
