@@ -1,8 +1,7 @@
 # make, make library: proves and builds the library, target/staticlib/libttcrx.a, for C, C++ and Rust (its header is include/ttcrx.h), and the
 # program, target/bin/ttclines.
 # make demo: proves and builds the program, and shows what it prints of docs/example.txt, line by line and in words.
-# make test: the gate: the layout of the source files, from nothing every proof and must-fail edit, then library and program against the
-# independent model.
+# make test: the gate: the layout of the Rust files, every proof and must-fail edit, then library and program against the independent model.
 # make compare: library and program against the independent model of host/, called from Rust, C and C++; the examples of README.md and
 # docs/USING.md; and the tests against wrong libraries, each of which they must find.
 # make bench: measures program and library beside the independent model, and prints the tables.
