@@ -133,6 +133,7 @@ pub fn no_outputs() -> Outputs
 }
 
 // Whether the receiver waits for a start bit.
+#[tactic(auto, using(laws::proofs::Rules::picks), unfolding(crate::specs::State::is_waiting))]
 pub fn is_waiting(held: Held) -> bool
     ensures { result ≡ is_waiting held }
 {
