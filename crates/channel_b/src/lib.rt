@@ -3,15 +3,15 @@
 // function takes any value held and any bit.
 #![tactic(auto)]
 
-ghost use Rattle.std.specs.Prelude.{◌≡◌, ◌+◌, ◌-◌, ◌*◌, ◌%◌, ◌^◌};
+ghost use Rattle.std.specs.Prelude.{◌≡◌, ◌-◌};
 ghost use Rattle.receiver_state.specs.State.{wanting_ones};
 ghost use Rattle.channel_b.specs.TakeBit.{frame_or_part, between_frames, take_bit, held_after};
 
 use frame::Kind;
 use receiver_state::Held;
-use std::num::wrapping_add_u64;
 
-// What a bit of channel B leaves: what is then held; or a whole frame.
+// What a bit of channel B leaves: what is then held; or a whole frame. Both are outcomes with a name,
+// and neither is an absence or an error, so it is no Option and no Result.
 #[derive(Clone, Copy)]
 pub enum Taken {
     Unfinished(Held),
@@ -25,38 +25,22 @@ fn frame_or_part(count: u8, bits: u64) -> Taken
     ensures { result ≡ frame_or_part count bits }
 {
     if count == 42 {
-        return Taken::Finished {
+        Taken::Finished {
             kind: Kind::Long,
             number: bits,
-        };
-    }
-    if count == 16 {
-        if bits < 0x4000 {
-            return Taken::Finished {
-                kind: Kind::Short,
-                number: bits,
-            };
         }
+    } else if count == 16 && bits < 0x4000 {
+        Taken::Finished {
+            kind: Kind::Short,
+            number: bits,
+        }
+    } else {
+        Taken::Unfinished(Held {
+            count,
+            bits,
+            ..Held::default()
+        })
     }
-    Taken::Unfinished(Held {
-        count,
-        wanted: 0,
-        bits,
-    })
-}
-
-// One more, in 8 bits.
-fn next_count(count: u8) -> u8
-    ensures { result ≡ (count + 1) % 2 ^ 8 }
-{
-    ((count as u16 + 1) % 0x100) as u8
-}
-
-// The bit after the others, in 64 bits.
-fn next_bits(bits: u64, bit: u8) -> u64
-    ensures { result ≡ (bits * 2 + bit) % 2 ^ 64 }
-{
-    wrapping_add_u64(bits % 0x8000_0000_0000_0000 * 2, bit as u64)
 }
 
 // So many ones are wanted, and no frame bit is held.
@@ -64,20 +48,9 @@ fn wanting(wanted: u8) -> Held
     ensures { result ≡ wanting_ones wanted }
 {
     Held {
-        count: 0,
         wanted,
-        bits: 0,
+        ..Held::default()
     }
-}
-
-// One less, or none.
-fn one_less(wanted: u8) -> u8
-    ensures { result ≡ wanted - 1 }
-{
-    if wanted == 0 {
-        return 0;
-    }
-    wanted - 1
 }
 
 // A bit with no frame bit held: a 0 is the start bit, or begins the run of ones again; a 1 is one less
@@ -86,17 +59,14 @@ fn one_less(wanted: u8) -> u8
 fn between_frames(wanted: u8, bit: u8) -> Held
     ensures { result ≡ between_frames wanted bit }
 {
-    if bit == 0 {
-        if wanted == 0 {
-            return Held {
-                count: 1,
-                wanted: 0,
-                bits: 0,
-            };
-        }
-        return wanting(41);
+    match (bit, wanted) {
+        (0, 0) => Held {
+            count: 1,
+            ..wanting(0)
+        },
+        (0, _) => wanting(41),
+        _ => wanting(wanted.saturating_sub(1)),
     }
-    wanting(one_less(wanted))
 }
 
 // So many ones in a row, with no frame bit held and so many ones wanted: what they leave one after the
@@ -104,20 +74,20 @@ fn between_frames(wanted: u8, bit: u8) -> Held
 pub fn take_ones(wanted: u8, ones: usize) -> Held
     ensures { result ≡ wanting_ones (wanted - ones) }
 {
-    if wanted as usize > ones {
-        return wanting(wanted - ones as u8);
-    }
-    wanting(0)
+    wanting(usize::from(wanted).saturating_sub(ones) as u8)
 }
 
-// One bit of channel B.
+// One bit of channel B. Count and number wrap, so that any value held can be taken.
+#[tactic(auto, using(laws::proofs::Rules::picks), unfolding(crate::specs::TakeBit::take_bit))]
 pub fn take_bit(held: Held, bit: u8) -> Taken
     ensures { result ≡ take_bit held bit }
 {
     if held.count == 0 {
-        return Taken::Unfinished(between_frames(held.wanted, bit));
+        Taken::Unfinished(between_frames(held.wanted, bit))
+    } else {
+        let bits = held.bits.wrapping_mul(2).wrapping_add(u64::from(bit));
+        frame_or_part(held.count.wrapping_add(1), bits)
     }
-    frame_or_part(next_count(held.count), next_bits(held.bits, bit))
 }
 
 // What a finished frame leaves held: nothing, or after a stop bit of 0 the 41 ones wanted.
@@ -125,8 +95,9 @@ pub fn take_bit(held: Held, bit: u8) -> Taken
 pub fn held_after(number: u64) -> Held
     ensures { result ≡ held_after number }
 {
-    if number % 2 != 0 {
-        return wanting(0);
+    if number % 2 == 0 {
+        wanting(41)
+    } else {
+        wanting(0)
     }
-    wanting(41)
 }

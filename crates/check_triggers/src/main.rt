@@ -4,226 +4,236 @@
 // show something.
 #![tactic(auto)]
 
-use frame::{encode_long, encode_short};
+ghost use Rattle.std.specs.Prelude.{◌≤◌, ◌<◌};
+
+use frame::{Fields, encode_long, encode_short};
 use receiver::clock;
-use receiver_state::{Counters, Outputs, Receiver, fresh};
+use receiver_state::{Counters, Outputs, Receiver, fresh, no_outputs};
+use refusals::Refusal;
+use std::fmt;
+use std::fmt::Display;
 
-// The bits of a run stand in a number like those of a frame: its first bit has this place.
-const FIRST_OF_FIVE: u64 = 0x10;
-
-const FIRST_OF_SHORT: u64 = 0x8000;
-
-const FIRST_OF_LONG: u64 = 0x200_0000_0000;
-
-// A write that fails is not reported: who compares the output sees what is missing.
-fn print_text(rt: &impl Print, text: &str) {
-    let _ = rt.print(text);
-}
-
-fn print_number(rt: &impl Print, label: &str, number: u64) {
-    let _ = print!(rt; "{label}{number}");
-}
-
-fn print_flag(rt: &impl Print, label: &str, flag: u8) {
-    if flag == 1 {
-        print_text(rt, label);
-    }
-}
-
-fn print_bus(rt: &impl Print, strobe: u8, number: u16) {
-    if strobe == 1 {
-        print_number(rt, " bunch ", number as u64);
-    }
-    if strobe == 2 {
-        print_number(rt, " event low ", number as u64);
-    }
-    if strobe == 3 {
-        print_number(rt, " event high ", number as u64);
-    }
-}
-
-fn print_clock(rt: &impl Print, number: u64, outputs: Outputs) {
-    print_number(rt, "", number);
-    print_flag(rt, " trigger", outputs.trigger);
-    print_flag(rt, " missed", outputs.missed);
-    print_bus(rt, outputs.strobe, outputs.number);
-    if outputs.verdict > 0 {
-        print_number(rt, " verdict ", outputs.verdict as u64);
-        print_number(rt, " corrected ", outputs.corrected as u64);
-        print_number(rt, " word ", outputs.word as u64);
-    }
-    print_text(rt, "\n");
-}
-
-// Of a frame's clocks only those are printed that show something.
-fn shows_nothing(outputs: Outputs) -> bool {
-    if outputs.trigger > 0 {
-        return false;
-    }
-    if outputs.missed > 0 {
-        return false;
-    }
-    if outputs.strobe > 0 {
-        return false;
-    }
-    if outputs.number > 0 {
-        return false;
-    }
-    if outputs.verdict > 0 {
-        return false;
-    }
-    outputs.corrected == 0 && outputs.word == 0
-}
-
-// A clock that shows nothing is printed as such, or not at all.
-fn print_or_skip(rt: &impl Print, number: u64, outputs: Outputs, skip: bool) {
-    if !shows_nothing(outputs) {
-        print_clock(rt, number, outputs);
-        return;
-    }
-    if skip {
-        return;
-    }
-    print_number(rt, "", number);
-    print_text(rt, " nothing\n");
-}
-
-fn print_state(rt: &impl Print, receiver: Receiver) {
-    print_number(rt, "  bunch counter ", receiver.core.counters.bunch as u64);
-    print_number(rt, ", event counter ", receiver.core.counters.event as u64);
-    print_number(rt, ", words left ", receiver.core.sequence.left as u64);
-    print_text(rt, "\n");
-}
-
-// As many clocks as `first` has bits, with the bits of two numbers as triggers and data.
-fn run(
-    rt: &impl Print,
-    start: Receiver,
+// What is sent: bits of both channels, a clock each. Each channel's stand in a number like those of a
+// frame, the first most significant.
+#[derive(Clone, Copy)]
+struct Sent {
     triggers: u64,
     data: u64,
-    first: u64,
-    skip: bool,
-) -> Receiver {
-    let mut receiver = start;
-    let mut place = first;
-    let mut number = 1u64;
-    while place > 0 {
-        let trigger = (triggers / place % 2) as u8;
-        let bit = (data / place % 2) as u8;
-        let answer = clock(receiver, trigger, bit);
-        print_or_skip(rt, number, answer.outputs, skip);
-        receiver = answer.receiver;
-        number = number.wrapping_add(1);
-        place /= 2;
+    clocks: u32,
+    ghost fits: { clocks ≤ 64 },
+}
+
+// What a clock shows.
+// Strobe and verdict are numbers, as in C's Outputs.
+#[derive(Drop)]
+struct Shown(Outputs);
+
+impl Display for Shown {
+    fn fmt<W: fmt::Write>(&self, f: &mut fmt::Formatter<W>) -> fmt::Result {
+        if self.0 == no_outputs() {
+            return write!(f, " nothing");
+        }
+        let Outputs {
+            trigger,
+            missed,
+            number,
+            strobe,
+            verdict,
+            corrected,
+            word,
+            ..
+        } = self.0;
+        if trigger == 1 {
+            write!(f, " trigger")?;
+        }
+        if missed == 1 {
+            write!(f, " missed")?;
+        }
+        match strobe {
+            1 => write!(f, " bunch {number}")?,
+            2 => write!(f, " event low {number}")?,
+            3 => write!(f, " event high {number}")?,
+            _ => {}
+        }
+        if verdict > 0 {
+            write!(f, " verdict {verdict} corrected {corrected} word {word}")?;
+        }
+        Ok(())
     }
-    receiver
+}
+
+// What is shown of a receiver.
+#[derive(Drop)]
+struct State(Receiver);
+
+impl Display for State {
+    fn fmt<W: fmt::Write>(&self, f: &mut fmt::Formatter<W>) -> fmt::Result {
+        let core = self.0.core;
+        write!(
+            f,
+            "  bunch counter {}, event counter {}, words left {}",
+            core.counters.bunch, core.counters.event, core.sequence.left
+        )
+    }
+}
+
+// A write that fails is not reported: who compares the output sees what is missing. The two check
+// programs share no crate, so each has this line.
+fn show(rt: &impl Print, line: impl Display + Drop) {
+    let _ = rt.println(line);
+}
+
+// The bit of a number at a place, 0 the least.
+// As bit_at of whole_frame, which is private: three lines are no crate.
+fn bit_at(number: u64, place: u32) -> u8
+    requires { place < 64 }
+{
+    ((number >> place) % 2) as u8
+}
+
+// The clocks of what is sent; `print` is given the number of each, and what it shows.
+fn send<F: Fn(u32, Shown)>(start: Receiver, sent: Sent, print: F) -> Result<Receiver, Refusal>
+    requires { F.IsAlwaysCallable print }
+{
+    let mut receiver = start;
+    for place in (0..sent.clocks).rev() {
+        let trigger = bit_at(sent.triggers, place);
+        let bit = bit_at(sent.data, place);
+        let done = clock(receiver, trigger, bit)?;
+        print(sent.clocks - place, Shown(done.outputs));
+        receiver = done.receiver;
+    }
+    Ok(receiver)
+}
+
+// A frame: of its clocks only those are printed that show something.
+fn send_frame(rt: &impl Print, start: Receiver, frame: Sent) -> Result<Receiver, Refusal> {
+    send(start, frame, |number, shown| {
+        if shown.0 != no_outputs() {
+            show(rt, format_args!("{number}{shown}"));
+        }
+    })
+}
+
+// Five idle bits on channel B, with these triggers, and the state that they leave.
+fn triggered(rt: &impl Print, start: Receiver, triggers: u64) -> Result<(), Refusal> {
+    let idle = Sent {
+        triggers,
+        data: 0x1F,
+        clocks: 5,
+    };
+    let after = send(start, idle, |number, shown| {
+        show(rt, format_args!("{number}{shown}"));
+    })?;
+    show(rt, State(after));
+    Ok(())
+}
+
+// A long frame for this receiver.
+fn long_frame(sub: u8, data: u8, triggers: u64) -> Result<Sent, Refusal> {
+    let fields = Fields {
+        address: 5,
+        e: 0,
+        sub,
+        data,
+    };
+    Ok(Sent {
+        triggers,
+        data: encode_long(fields)?,
+        clocks: 42,
+    })
+}
+
+fn short_frame(data: u8, triggers: u64) -> Sent {
+    Sent {
+        triggers,
+        data: encode_short(data),
+        clocks: 16,
+    }
 }
 
 // A fresh receiver of ID 5 whose control register was written by a frame; the mode is its bits 1..0.
-fn in_mode(rt: &impl Print, control: u8) -> Receiver {
-    let write = encode_long(5, 0, 3, control);
-    let start = fresh(5, 5);
-    run(rt, start.receiver, 0, write.number, FIRST_OF_LONG, true)
+fn in_mode(rt: &impl Print, control: u8) -> Result<Receiver, Refusal> {
+    send_frame(rt, fresh(5, 5)?, long_frame(3, control, 0)?)
 }
 
-// Idle bits on channel B.
-fn triggered(rt: &impl Print, start: Receiver, triggers: u64) {
-    let ones = FIRST_OF_FIVE * 2 - 1;
-    let after = run(rt, start, triggers, ones, FIRST_OF_FIVE, false);
-    print_state(rt, after);
-}
-
-fn modes(rt: &impl Print) {
-    print_text(rt, "\nmode 0, trigger on clock 1\n");
-    triggered(rt, in_mode(rt, 0), 0x10);
-    print_text(rt, "\nmode 1, trigger on clock 1\n");
-    triggered(rt, in_mode(rt, 1), 0x10);
-    print_text(rt, "\nmode 2, trigger on clock 1\n");
-    triggered(rt, in_mode(rt, 2), 0x10);
-    print_text(rt, "\nmode 3, trigger on clock 1\n");
-    triggered(rt, in_mode(rt, 3), 0x10);
-    print_text(
+fn modes(rt: &impl Print) -> Result<(), Refusal> {
+    for mode in 0..4 {
+        show(rt, format_args!("\nmode {mode}, trigger on clock 1"));
+        triggered(rt, in_mode(rt, mode)?, 0x10)?;
+    }
+    show(
         rt,
-        "\nmode 3, triggers on clocks 1, 3 (the last word) and 4\n",
+        "\nmode 3, triggers on clocks 1, 3 (the last word) and 4",
     );
-    triggered(rt, in_mode(rt, 3), 0x16);
+    triggered(rt, in_mode(rt, 3)?, 0x16)
 }
 
 // A fresh receiver but for both counters, which are at their last numbers.
-fn before_wraps() -> Receiver {
-    let mut receiver = fresh(5, 5).receiver;
+fn before_wraps() -> Result<Receiver, Refusal> {
+    let mut receiver = fresh(5, 5)?;
     receiver.core.counters = Counters {
         bunch: 4095,
         event: 0xFF_FFFF,
     };
-    receiver
+    Ok(receiver)
 }
 
-fn wraps(rt: &impl Print) {
-    print_text(
+fn wraps(rt: &impl Print) -> Result<(), Refusal> {
+    show(
         rt,
-        "\nmode 3, from bunch 4095 and event 16777215, triggers on clocks 1 and 4\n",
+        "\nmode 3, from bunch 4095 and event 16777215, triggers on clocks 1 and 4",
     );
-    triggered(rt, before_wraps(), 0x12);
+    triggered(rt, before_wraps()?, 0x12)
 }
 
-// A broadcast in mode 3, with triggers on its first and last clock.
-fn broadcast(rt: &impl Print, data: u8) {
-    let sent = encode_short(data);
-    let start = in_mode(rt, 3);
-    let after = run(rt, start, 0x8001, sent.number, FIRST_OF_SHORT, true);
-    print_state(rt, after);
-    triggered(rt, after, 0);
-}
-
-fn broadcasts(rt: &impl Print) {
-    print_text(
-        rt,
-        "\nmode 3, broadcast 1 clears the bunch counter, triggers on its first and last clock\n",
-    );
-    broadcast(rt, 1);
-    print_text(
-        rt,
-        "\nmode 3, broadcast 2 clears the event counter, triggers on its first and last clock\n",
-    );
-    broadcast(rt, 2);
-    print_text(
-        rt,
-        "\nmode 3, broadcast 3 clears both counters, triggers on its first and last clock\n",
-    );
-    broadcast(rt, 3);
+// Broadcasts in mode 3, with triggers on their first and last clock.
+fn broadcasts(rt: &impl Print) -> Result<(), Refusal> {
+    let cleared = ["the bunch counter", "the event counter", "both counters"];
+    for (data, what) in (1..).zip(cleared) {
+        show(
+            rt,
+            format_args!(
+                "\nmode 3, broadcast {data} clears {what}, triggers on its first and last clock"
+            ),
+        );
+        let after = send_frame(rt, in_mode(rt, 3)?, short_frame(data, 0x8001))?;
+        show(rt, State(after));
+        triggered(rt, after, 0)?;
+    }
+    Ok(())
 }
 
 // A long frame for this receiver in mode 3, then five clocks.
-fn addressed(rt: &impl Print, sub: u8, data: u8, triggers: u64, later: u64) {
-    let sent = encode_long(5, 0, sub, data);
-    let start = in_mode(rt, 3);
-    let after = run(rt, start, triggers, sent.number, FIRST_OF_LONG, true);
-    print_state(rt, after);
-    triggered(rt, after, later);
+fn addressed(rt: &impl Print, frame: Sent, later: u64) -> Result<(), Refusal> {
+    let after = send_frame(rt, in_mode(rt, 3)?, frame)?;
+    show(rt, State(after));
+    triggered(rt, after, later)
 }
 
-fn frames(rt: &impl Print) {
-    print_text(
+fn frames(rt: &impl Print) -> Result<(), Refusal> {
+    show(rt, "\nmode 3, RESET, trigger on the clock before its last");
+    addressed(rt, long_frame(6, 0, 0x0002)?, 0)?;
+    show(rt, "\nmode 3, RESET, trigger on its last clock");
+    addressed(rt, long_frame(6, 0, 0x0001)?, 0)?;
+    show(
         rt,
-        "\nmode 3, RESET, trigger on the clock before its last\n",
+        "\nmode 3, control write of 0, trigger on the clock before its last; later one more",
     );
-    addressed(rt, 6, 0, 0x0002, 0);
-    print_text(rt, "\nmode 3, RESET, trigger on its last clock\n");
-    addressed(rt, 6, 0, 0x0001, 0);
-    print_text(
-        rt,
-        "\nmode 3, control write of 0, trigger on the clock before its last; later one more\n",
-    );
-    addressed(rt, 3, 0, 0x0002, 0x02);
+    addressed(rt, long_frame(3, 0, 0x0002)?, 0x02)
+}
+
+fn run(rt: &impl Print) -> Result<(), Refusal> {
+    show(rt, "document 01: triggers on clocks 1, 2 and 4");
+    triggered(rt, fresh(5, 5)?, 0x1A)?;
+    modes(rt)?;
+    wraps(rt)?;
+    broadcasts(rt)?;
+    frames(rt)
 }
 
 fn main(rt: HostRuntime) {
-    let start = fresh(5, 5);
-    print_text(&rt, "document 01: triggers on clocks 1, 2 and 4\n");
-    triggered(&rt, start.receiver, 0x1A);
-    modes(&rt);
-    wraps(&rt);
-    broadcasts(&rt);
-    frames(&rt);
+    if let Err(refusal) = run(&rt) {
+        show(&rt, format_args!("refused by {}", u8::from(refusal)));
+    }
 }

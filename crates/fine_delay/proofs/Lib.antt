@@ -1,4 +1,3 @@
-pub mod Integers
 pub mod Naturals
 pub mod Inverse
 pub mod Laws

@@ -1,7 +1,9 @@
 -- Document 01, "Registers": fine delay settings and their bytes.
 -- `DelayByte` and `DelaySetting` are structs of src/lib.rt.
-use Rattle.std.specs.Prelude.{ℕ, ◌+◌, ◌*◌, ◌/◌, ◌%◌, Bool, cond, ltb, pos, ◌+ℤ◌, ◌-ℤ◌}
+use Rattle.std.specs.Prelude.{ℕ, ◌+◌, ◌*◌, ◌/◌, ◌%◌, Bool, cond, ltb, pos, ◌+ℤ◌, ◌-ℤ◌, Result, Ok, Err}
 use Rattle.laws.specs.Remainder.{◌%ℤ◌}
+use Rattle.refusals.specs.declared.Refusal.{Refusal}
+use Rattle.refusals.specs.Refusals.{number}
 use Rattle.fine_delay.specs.declared.DelayByte.{DelayByte}
 use Rattle.fine_delay.specs.declared.DelaySetting.{DelaySetting}
 
@@ -17,6 +19,11 @@ byte_of k =
 unfoldable pub setting_of : ℕ → ℕ
 setting_of byte = (15 * (byte % 16) + 16 * (byte / 16) + 30) % 240
 
+-- what C is handed for a setting: the number of refusal, and the byte, 0 where refused
+abbrev pub byte_answer : Result ℕ Refusal → DelayByte
+byte_answer (Ok byte) = record { refusal = 0; byte = byte }
+byte_answer (Err refusal) = record { refusal = number refusal; byte = 0 }
+
 -- refusal 8: "setting over 239"
 unfoldable pub setting_to_byte : ℕ → DelayByte
 setting_to_byte k = cond (ltb 239 k) (record { refusal = 8; byte = 0 }) (record { refusal = 0; byte = byte_of k })
@@ -25,6 +32,11 @@ setting_to_byte k = cond (ltb 239 k) (record { refusal = 8; byte = 0 }) (record 
 -- Document 02, Q-4, goes by it: registers 0 and 1 of a well-formed state, refusal 17 and verdict 10.
 unfoldable pub has_setting : ℕ → Bool
 has_setting byte = ltb byte 240
+
+-- what C is handed for a byte: the number of refusal, and the setting, 0 where refused
+abbrev pub setting_answer : Result ℕ Refusal → DelaySetting
+setting_answer (Ok setting) = record { refusal = 0; setting = setting }
+setting_answer (Err refusal) = record { refusal = number refusal; setting = 0 }
 
 -- refusal 9: "byte over 239"
 unfoldable pub byte_to_setting : ℕ → DelaySetting

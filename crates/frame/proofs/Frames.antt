@@ -11,9 +11,11 @@ use lib.Count.{ones}
 use lib.ListN.{length}
 use Rattle.laws.proofs.Rules.{tests, picks, picked_by, by_test}
 use Rattle.hamming.specs.declared.WrongBit.{WrongBit}
-use Rattle.hamming.specs.declared.WrongBit.TheVariants.{None, Check, Data}
-use Rattle.hamming.specs.declared.Decoded.{Decoded}
-use Rattle.hamming.specs.declared.Decoded.TheVariants.{Word, Uncorrectable}
+use Rattle.hamming.specs.declared.WrongBit.TheVariants.{Check, Data}
+use Rattle.std.specs.declared.option.Option.{Option}
+use Rattle.std.specs.declared.option.Option.TheVariants.{Some, None}
+use Rattle.hamming.specs.declared.Word.{Word}
+use Rattle.hamming.specs.Code.{word_with}
 use Rattle.hamming.specs.Correction.{Coded, encoded, syndrome_of, decoded, flip, Protected, NoneOrProtected, flip_each, EachProtected, flag_of, Within, Corrects}
 use Rattle.hamming.proofs.Correction.{correction}
 use Rattle.hamming.proofs.Place.{place_laws}
@@ -78,56 +80,55 @@ unfolding decode_frame judged
 decode_received columns kind number i e = rw (i, ne_eqb (stop_bit number) 0 e)
 
 -- the answer to a decoded word, and the syndrome that it was decoded by
-abbrev answer_by : Kind → ℕ → Decoded → Answer
+abbrev answer_by : Kind → ℕ → Option Word → Answer
 answer_by kind s d = answer_to kind (judged_word kind s d)
 
 -- where a word is answered, the syndrome makes no difference
-abbrev answer_word : Kind → ℕ → Bool → WrongBit → Answer
-answer_word kind word flag p = answer_by kind 0 (Word word flag p)
+abbrev answer_word : Kind → ℕ → Option WrongBit → Answer
+answer_word kind word p = answer_by kind 0 (Some (word_with word p))
 
 -- a word of fields in range
-answer_good : (kind : Kind) (fields : Fields) (flag : Bool) (p : WrongBit) → Frames.InRange kind fields
-    → answer_word kind (word_of kind fields) flag p ≡ Frames.fields_answer kind (cond flag 1 0) (place_in kind p) fields
-answer_good kind fields flag p r = rw (fixed_one kind fields r, fields_back kind fields r)
+answer_good : (kind : Kind) (fields : Fields) (p : Option WrongBit) → Frames.InRange kind fields
+    → answer_word kind (word_of kind fields) p ≡ Frames.fields_answer kind (cond (flag_of p) 1 0) (place_in kind p) fields
+answer_good kind fields p r = rw (fixed_one kind fields r, fields_back kind fields r)
 
 -- one whose fixed bit is 0
-answer_fixed : (kind : Kind) (word : ℕ) (flag : Bool) (p : WrongBit) → fixed_zero kind word ≡ true → answer_word kind word flag p ≡ bare_answer 0 9 word
-answer_fixed kind word flag p z = rw z
+answer_fixed : (kind : Kind) (word : ℕ) (p : Option WrongBit) → fixed_zero kind word ≡ true → answer_word kind word p ≡ bare_answer 0 9 word
+answer_fixed kind word p z = rw z
 
 -- and one that can't be corrected, by the number of ones in the syndrome
-answer_even : (kind : Kind) (s : ℕ) (d : Decoded) → d ≡ Uncorrectable → ones s % 2 ≡ 0 → answer_by kind s d ≡ bare_answer 0 8 0
+answer_even : (kind : Kind) (s : ℕ) (d : Option Word) → d ≡ None → ones s % 2 ≡ 0 → answer_by kind s d ≡ bare_answer 0 8 0
 answer_even kind s d e even = rw (e, even)
 
-answer_odd : (kind : Kind) (s : ℕ) (d : Decoded) → d ≡ Uncorrectable → ones s % 2 ≡ 1 → answer_by kind s d ≡ bare_answer 0 11 0
+answer_odd : (kind : Kind) (s : ℕ) (d : Option Word) → d ≡ None → ones s % 2 ≡ 1 → answer_by kind s d ≡ bare_answer 0 11 0
 answer_odd kind s d e odd = rw (e, odd)
 
 decode_refused : (columns : List ℕ) (kind : Kind) (number : ℕ) → is_frame kind number ≡ false → decode_frame columns kind number ≡ bare_answer 12 0 0
 unfolding decode_frame
 decode_refused columns kind number e = rw e
 
-flag_raised : (n w : ℕ) (p : WrongBit) → Protected n w p → flag_of p ≡ true
+flag_raised : (n w : ℕ) (p : Option WrongBit) → Protected n w p → flag_of p ≡ true
 flag_raised n w None b = absurd b
-flag_raised n w (Check j) b = refl
-flag_raised n w (Data i) b = refl
+flag_raised n w (Some (Check j)) b = refl
+flag_raised n w (Some (Data i)) b = refl
 
 fixed_is_zero : (kind : Kind) (word : ℕ) → Frames.FixedIsZero kind word → fixed_zero kind word ≡ true
 fixed_is_zero Short word z = absurd z
 fixed_is_zero Long word z = search tests
 
-none_or : (n w : ℕ) (p : WrongBit) → Protected n w p → NoneOrProtected n w p
+none_or : (n w : ℕ) (p : Option WrongBit) → Protected n w p → NoneOrProtected n w p
 none_or n w None b = absurd b
-none_or n w (Check j) b = b
-none_or n w (Data i) b = b
+none_or n w (Some (Check j)) b = b
+none_or n w (Some (Data i)) b = b
 
 -- ---- conversely: what led to an answer
 
 -- the fields are answered only to a good frame
 record Answered (columns : List ℕ) (kind : Kind) (number flag place word : ℕ) (fields : Fields) : Type 0 where
   pub is_a_frame : is_frame kind number ≡ true
-  pub raised : Bool
-  pub wrong : WrongBit
-  pub judged_good : judged columns kind number ≡ Good word raised wrong
-  pub flag_of_lem : flag ≡ cond raised 1 0
+  pub wrong : Option WrongBit
+  pub judged_good : judged columns kind number ≡ Good word wrong
+  pub flag_of_lem : flag ≡ cond (flag_of wrong) 1 0
   pub place_of : place ≡ place_in kind wrong
   pub fields_of_lem : fields ≡ fields_of kind word
 
@@ -145,13 +146,12 @@ answered columns kind number flag place word fields = by_frame (is_frame kind nu
     by_judged i EvenSyndrome e a = let z : ◌≡◌ {A = ℕ} 8 0 = ap (λ (x : Answer). x.verdict) a in absurd (omega arith)
     by_judged i OddSyndrome e a = let z : ◌≡◌ {A = ℕ} 11 0 = ap (λ (x : Answer). x.verdict) a in absurd (omega arith)
     by_judged i (FixedZero w) e a = let z : ◌≡◌ {A = ℕ} 9 0 = ap (λ (x : Answer). x.verdict) a in absurd (omega arith)
-    by_judged i (Good w raised wrong) e a =
+    by_judged i (Good w wrong) e a =
         let same : w ≡ word = ap (λ (x : Answer). x.word) a in
         record {
           is_a_frame = i;
-          raised = raised;
           wrong = wrong;
-          judged_good = e ∙ ap (λ (x : ℕ). Good x raised wrong) same;
+          judged_good = e ∙ ap (λ (x : ℕ). Good x wrong) same;
           flag_of_lem = sym (ap (λ (x : Answer). x.corrected) a);
           place_of = sym (ap (λ (x : Answer). x.place) a);
           fields_of_lem = sym (ap (λ (x : Answer). x.fields) a) ∙ ap (fields_of kind) same;
@@ -163,44 +163,45 @@ answered columns kind number flag place word fields = by_frame (is_frame kind nu
     by_frame false i a = let z : ◌≡◌ {A = ℕ} 12 0 = ap (λ (x : Answer). x.refusal) a in absurd (omega arith)
 
 -- a frame is good only if its stop bit is 1, its word is decoded, and the fixed bit is not 0
-record GoodFrame (columns : List ℕ) (kind : Kind) (number word : ℕ) (raised : Bool) (wrong : WrongBit) : Type 0 where
+record GoodFrame (columns : List ℕ) (kind : Kind) (number word : ℕ) (wrong : Option WrongBit) : Type 0 where
   pub stop_one : stop_bit number ≡ 1
-  pub word_decoded : decoded columns (received kind number) ≡ Word word raised wrong
+  pub word_decoded : decoded columns (received kind number) ≡ Some (word_with word wrong)
   pub fixed_not_zero : fixed_zero kind word ≡ false
 
-good_frame : (columns : List ℕ) (kind : Kind) (number word : ℕ) (raised : Bool) (wrong : WrongBit) → judged columns kind number ≡ Good word raised wrong
-    → GoodFrame columns kind number word raised wrong
+good_frame : (columns : List ℕ) (kind : Kind) (number word : ℕ) (wrong : Option WrongBit) → judged columns kind number ≡ Good word wrong
+    → GoodFrame columns kind number word wrong
 unfolding judged
-good_frame columns kind number word raised wrong = by_stop (eqb (stop_bit number) 0) refl
+good_frame columns kind number word wrong = by_stop (eqb (stop_bit number) 0) refl
   where
-    by_fixed : stop_bit number ≡ 1 → (w : ℕ) (r : Bool) (p : WrongBit) → decoded columns (received kind number) ≡ Word w r p
-        → (b : Bool) → fixed_zero kind w ≡ b → cond b (FixedZero w) (Good w r p) ≡ Good word raised wrong → GoodFrame columns kind number word raised wrong
-    by_fixed s w r p e true z g = absurd (let no_way : ◌≡◌ {A = ℕ} 0 1 = cc in omega arith)
-    by_fixed s w r p e false z g =
+    by_fixed : stop_bit number ≡ 1 → (w : ℕ) (p : Option WrongBit) → decoded columns (received kind number) ≡ Some (word_with w p)
+        → (b : Bool) → fixed_zero kind w ≡ b → cond b (FixedZero w) (Good w p) ≡ Good word wrong → GoodFrame columns kind number word wrong
+    by_fixed s w p e true z g = absurd (let no_way : ◌≡◌ {A = ℕ} 0 1 = cc in omega arith)
+    by_fixed s w p e false z g =
         let same : w ≡ word = cc in
-        let decoded_same : Word w r p ≡ Word word raised wrong = cc in
+        let same_bit : p ≡ wrong = cc in
+        let decoded_same = ap₂ (λ (x : ℕ) (y : Option WrongBit). Some (word_with x y)) same same_bit in
         record { stop_one = s; word_decoded = e ∙ decoded_same; fixed_not_zero = rw same at z }
 
-    never_good : (even : Bool) → cond even EvenSyndrome OddSyndrome ≡ Good word raised wrong → ⊥
+    never_good : (even : Bool) → cond even EvenSyndrome OddSyndrome ≡ Good word wrong → ⊥
     never_good true g = let no_way : ◌≡◌ {A = ℕ} 0 1 = cc in omega arith
     never_good false g = let no_way : ◌≡◌ {A = ℕ} 0 1 = cc in omega arith
 
-    by_decoded : stop_bit number ≡ 1 → (d : Decoded) → decoded columns (received kind number) ≡ d
-        → judged_word kind (syndrome_of columns (received kind number)) d ≡ Good word raised wrong → GoodFrame columns kind number word raised wrong
-    by_decoded s (Word w r p) e g = by_fixed s w r p e (fixed_zero kind w) refl g
-    by_decoded s Uncorrectable e g = absurd (never_good (eqb (ones (syndrome_of columns (received kind number)) % 2) 0) g)
+    by_decoded : stop_bit number ≡ 1 → (d : Option Word) → decoded columns (received kind number) ≡ d
+        → judged_word kind (syndrome_of columns (received kind number)) d ≡ Good word wrong → GoodFrame columns kind number word wrong
+    by_decoded s (Some w) e g = by_fixed s w.«data» w.wrong e (fixed_zero kind w.«data») refl g
+    by_decoded s None e g = absurd (never_good (eqb (ones (syndrome_of columns (received kind number)) % 2) 0) g)
 
-    by_stop : (t : Bool) → eqb (stop_bit number) 0 ≡ t → cond t StopZero (judged_received columns kind (received kind number)) ≡ Good word raised wrong
-        → GoodFrame columns kind number word raised wrong
+    by_stop : (t : Bool) → eqb (stop_bit number) 0 ≡ t → cond t StopZero (judged_received columns kind (received kind number)) ≡ Good word wrong
+        → GoodFrame columns kind number word wrong
     by_stop true s g = absurd (let no_way : ◌≡◌ {A = ℕ} 0 1 = cc in omega arith)
     by_stop false s g = by_decoded (not_zero number (eqb-false (stop_bit number) 0 s)) (decoded columns (received kind number)) refl g
 
 -- the verdict on a decoded word is 0 or 9
-not_good : (kind : Kind) (word : ℕ) (flag : Bool) (p : WrongBit) (verdict : ℕ) → (0 ≡ verdict → ⊥) → (9 ≡ verdict → ⊥)
-    → (answer_word kind word flag p).verdict ≡ verdict → ⊥
-not_good kind word flag p verdict h k = by_fixed (fixed_zero kind word)
+not_good : (kind : Kind) (word : ℕ) (p : Option WrongBit) (verdict : ℕ) → (0 ≡ verdict → ⊥) → (9 ≡ verdict → ⊥)
+    → (answer_word kind word p).verdict ≡ verdict → ⊥
+not_good kind word p verdict h k = by_fixed (fixed_zero kind word)
   where
-    by_fixed : (t : Bool) → (answer_to kind (cond t (FixedZero word) (Good word flag p))).verdict ≡ verdict → ⊥
+    by_fixed : (t : Bool) → (answer_to kind (cond t (FixedZero word) (Good word p))).verdict ≡ verdict → ⊥
     by_fixed true e = k e
     by_fixed false e = h e
 
@@ -211,16 +212,16 @@ by_low n even odd = by_test (eqb (n % 2) 0) (λ t. even (eqb-true (n % 2) 0 t)) 
 eleven_not_8 : ◌≡◌ {A = ℕ} 11 8 → ⊥
 eleven_not_8 e = omega arith
 
-only_even : (kind : Kind) (s : ℕ) (d : Decoded) → (answer_by kind s d).verdict ≡ 8 → ones s % 2 ≡ 0
-only_even kind s (Word word flag p) e = absurd (not_good kind word flag p 8 (λ z. omega arith) (λ z. omega arith) e)
-only_even kind s Uncorrectable e = by_low (ones s) (λ even. even) (λ odd. absurd (eleven_not_8 (rw odd at e)))
+only_even : (kind : Kind) (s : ℕ) (d : Option Word) → (answer_by kind s d).verdict ≡ 8 → ones s % 2 ≡ 0
+only_even kind s (Some w) e = absurd (not_good kind w.«data» w.wrong 8 (λ z. omega arith) (λ z. omega arith) e)
+only_even kind s None e = by_low (ones s) (λ even. even) (λ odd. absurd (eleven_not_8 (rw odd at e)))
 
-only_odd : (kind : Kind) (s : ℕ) (d : Decoded) → (answer_by kind s d).verdict ≡ 11 → ones s % 2 ≡ 1
-only_odd kind s (Word word flag p) e = absurd (not_good kind word flag p 11 (λ z. omega arith) (λ z. omega arith) e)
-only_odd kind s Uncorrectable e = by_low (ones s) (λ even. absurd (eleven_not_8 (sym (rw even at e)))) (λ odd. odd)
+only_odd : (kind : Kind) (s : ℕ) (d : Option Word) → (answer_by kind s d).verdict ≡ 11 → ones s % 2 ≡ 1
+only_odd kind s (Some w) e = absurd (not_good kind w.«data» w.wrong 11 (λ z. omega arith) (λ z. omega arith) e)
+only_odd kind s None e = by_low (ones s) (λ even. absurd (eleven_not_8 (sym (rw even at e)))) (λ odd. odd)
 
 -- so the verdict tells an odd number of flips from an even one, if the syndrome's ones do
-flips_show : (kind : Kind) (s : ℕ) (d : Decoded) (count verdict : ℕ) → ones s % 2 ≡ count % 2 → verdict ≡ (answer_by kind s d).verdict
+flips_show : (kind : Kind) (s : ℕ) (d : Option Word) (count verdict : ℕ) → ones s % 2 ≡ count % 2 → verdict ≡ (answer_by kind s d).verdict
     → (count ≤ 1 → (verdict ≢ 8) × (verdict ≢ 11)) → Frames.FlipsShow count verdict
 flips_show kind s d count verdict parity shown few = record {
   odd_not_8 = λ odd e. omega (arith, odd, parity, only_even kind s d (sym shown ∙ e));
@@ -258,7 +259,7 @@ verdict_alone columns kind number verdict v =
     by_judged EvenSyndrome e = ap (λ (n : ℕ). bare_answer 0 n 0) e
     by_judged OddSyndrome e = ap (λ (n : ℕ). bare_answer 0 n 0) e
     by_judged (FixedZero word) e = absurd (never_9 e)
-    by_judged (Good word flag wrong) e = absurd (never_0 e)
+    by_judged (Good word wrong) e = absurd (never_0 e)
 
 -- an answer without flag has no place
 no_place : (kind : Kind) (refusal verdict word : ℕ) → Frames.PlaceByFlag kind (bare_answer refusal verdict word)
@@ -269,10 +270,9 @@ zero_flag true e = absurd (omega arith)
 zero_flag false e = refl
 
 -- the number is an encoding with at most that bit flipped
-record Near (columns : List ℕ) (kind : Kind) (number word : ℕ) (raised : Bool) (wrong : WrongBit) : Type 0 where
+record Near (columns : List ℕ) (kind : Kind) (number word : ℕ) (wrong : Option WrongBit) : Type 0 where
   pub word_below : word < 2 ^ data_bits kind
   pub protected : NoneOrProtected (data_bits kind) (check_bits kind) wrong
-  pub flag_of_bit : raised ≡ flag_of wrong
   pub number_of : number ≡ Frames.flip_protected kind wrong (encode_word columns kind word)
 
 -- ---- the theorem
@@ -284,11 +284,11 @@ frame_theorem columns kind len good = record {
   round_trip =
       λ fields r.
       ap (λ (x : Encoded). decode_frame columns kind x.number) (encodes columns kind fields r)
-      ∙ decode_within (word_of kind fields) None (word_fits kind fields r) tt ∙ answer_good kind fields false None r;
+      ∙ decode_within (word_of kind fields) None (word_fits kind fields r) tt ∙ answer_good kind fields None r;
   one_flip =
       λ fields p r b.
       decode_within (word_of kind fields) p (word_fits kind fields r) (none_or _ _ p b)
-      ∙ ap (λ (t : Bool). answer_word kind (word_of kind fields) t p) (flag_raised _ _ p b) ∙ answer_good kind fields true p r;
+      ∙ answer_good kind fields p r ∙ ap (λ (t : Bool). Frames.fields_answer kind (cond t 1 0) (place_in kind p) fields) (flag_raised _ _ p b);
   two_flips =
       λ word p q h b d ne.
       decode_flips word (q ∷ p ∷ []) h (d, (b, tt))
@@ -305,7 +305,7 @@ frame_theorem columns kind len good = record {
   refuses_others = decode_refused columns kind;
   stop_exactly = stop_exactly;
   verdict_alone = verdict_alone columns kind;
-  fixed_bit_zero = λ word p h z b. decode_within word p h b ∙ answer_fixed kind word (flag_of p) p (fixed_is_zero kind word z);
+  fixed_bit_zero = λ word p h z b. decode_within word p h b ∙ answer_fixed kind word p (fixed_is_zero kind word z);
   uncorrectable_exactly = exactly;
   decoded_only_if = only_if;
 }
@@ -322,44 +322,44 @@ frame_theorem columns kind len good = record {
     fits : (fields : Fields) → Frames.InRange kind fields → Fits kind (sent fields)
     fits fields r = fits_word (word_of kind fields) (word_fits kind fields r)
 
-    decoded_within : (word : ℕ) (p : WrongBit) → NoneOrProtected (data_bits kind) (check_bits kind) p
-        → decoded columns (flip p (encoded columns word)) ≡ Word word (flag_of p) p
+    decoded_within : (word : ℕ) (p : Option WrongBit) → NoneOrProtected (data_bits kind) (check_bits kind) p
+        → decoded columns (flip p (encoded columns word)) ≡ Some (word_with word p)
     decoded_within word None b = corrects.clean word
-    decoded_within word (Check j) b = corrects.one_flip word (Check j) b
-    decoded_within word (Data i) b = corrects.one_flip word (Data i) (subst⁻¹ (λ (n : ℕ). i < n) len b)
+    decoded_within word (Some (Check j)) b = corrects.one_flip word (Some (Check j)) b
+    decoded_within word (Some (Data i)) b = corrects.one_flip word (Some (Data i)) (subst⁻¹ (λ (n : ℕ). i < n) len b)
 
     -- an encoded word with no bit or one protected bit flipped is decoded as that word
-    decode_within : (word : ℕ) (p : WrongBit) → word < 2 ^ data_bits kind → NoneOrProtected (data_bits kind) (check_bits kind) p
-        → decode_frame columns kind (Frames.flip_protected kind p (encode_word columns kind word)) ≡ answer_word kind word (flag_of p) p
+    decode_within : (word : ℕ) (p : Option WrongBit) → word < 2 ^ data_bits kind → NoneOrProtected (data_bits kind) (check_bits kind) p
+        → decode_frame columns kind (Frames.flip_protected kind p (encode_word columns kind word)) ≡ answer_word kind word p
     decode_within word p h b =
         ap (decode_frame columns kind) (flipped kind (encoded columns word) 1 p (omega arith) (fits_word word h) b)
         ∙ decode_sent columns kind (flip p (encoded columns word)) (flipped_fits kind (encoded columns word) p (fits_word word h) b)
         ∙ ap (answer_by kind (syndrome_of columns (flip p (encoded columns word)))) (decoded_within word p b)
 
-    in_columns : (p : WrongBit) → Frames.ProtectedIn kind p → Protected (length columns) (check_bits kind) p
+    in_columns : (p : Option WrongBit) → Frames.ProtectedIn kind p → Protected (length columns) (check_bits kind) p
     in_columns p b = subst⁻¹ (λ (n : ℕ). Protected n (check_bits kind) p) len b
 
     -- any number of protected bits flipped
-    each_in_columns : (flips : List WrongBit) → Frames.EachProtectedIn kind flips → EachProtected (length columns) (check_bits kind) flips
+    each_in_columns : (flips : List (Option WrongBit)) → Frames.EachProtectedIn kind flips → EachProtected (length columns) (check_bits kind) flips
     each_in_columns flips b = subst⁻¹ (λ (n : ℕ). EachProtected n (check_bits kind) flips) len b
 
-    parity : (word : ℕ) (flips : List WrongBit) → Frames.EachProtectedIn kind flips
+    parity : (word : ℕ) (flips : List (Option WrongBit)) → Frames.EachProtectedIn kind flips
         → ones (syndrome_of columns (flip_each flips (encoded columns word))) % 2 ≡ length flips % 2
     parity word flips b = corrects.flips_parity word flips (each_in_columns flips b)
 
-    fits_flips : (word : ℕ) (flips : List WrongBit) → word < 2 ^ data_bits kind → Frames.EachProtectedIn kind flips
+    fits_flips : (word : ℕ) (flips : List (Option WrongBit)) → word < 2 ^ data_bits kind → Frames.EachProtectedIn kind flips
         → Fits kind (flip_each flips (encoded columns word))
     fits_flips word [] h b = fits_word word h
     fits_flips word (p ∷ ps) h b = flipped_fits kind (flip_each ps (encoded columns word)) p (fits_flips word ps h b.1) (none_or _ _ p b.0)
 
-    number_flips : (word : ℕ) (flips : List WrongBit) → word < 2 ^ data_bits kind → Frames.EachProtectedIn kind flips
+    number_flips : (word : ℕ) (flips : List (Option WrongBit)) → word < 2 ^ data_bits kind → Frames.EachProtectedIn kind flips
         → Frames.flip_each_protected kind flips (encode_word columns kind word) ≡ frame_number kind (flip_each flips (encoded columns word)) 1
     number_flips word [] h b = refl
     number_flips word (p ∷ ps) h b =
         ap (Frames.flip_protected kind p) (number_flips word ps h b.1)
         ∙ flipped kind (flip_each ps (encoded columns word)) 1 p (omega arith) (fits_flips word ps h b.1) (none_or _ _ p b.0)
 
-    decode_flips : (word : ℕ) (flips : List WrongBit) → word < 2 ^ data_bits kind → Frames.EachProtectedIn kind flips
+    decode_flips : (word : ℕ) (flips : List (Option WrongBit)) → word < 2 ^ data_bits kind → Frames.EachProtectedIn kind flips
         → decode_frame columns kind (Frames.flip_each_protected kind flips (encode_word columns kind word))
         ≡ answer_to kind (judged_received columns kind (flip_each flips (encoded columns word)))
     decode_flips word flips h b =
@@ -367,13 +367,13 @@ frame_theorem columns kind len good = record {
         ∙ decode_sent columns kind (flip_each flips (encoded columns word)) (fits_flips word flips h b)
 
     -- no flip, and one, give neither 8 nor 11
-    few_flips : (word : ℕ) (flips : List WrongBit) (verdict : ℕ) → (0 ≡ verdict → ⊥) → (9 ≡ verdict → ⊥) → word < 2 ^ data_bits kind
+    few_flips : (word : ℕ) (flips : List (Option WrongBit)) (verdict : ℕ) → (0 ≡ verdict → ⊥) → (9 ≡ verdict → ⊥) → word < 2 ^ data_bits kind
         → Frames.EachProtectedIn kind flips → length flips ≤ 1
         → (decode_frame columns kind (Frames.flip_each_protected kind flips (encode_word columns kind word))).verdict ≡ verdict → ⊥
     few_flips word [] verdict m n h b l e =
-        not_good kind word false None verdict m n (sym (ap (λ (x : Answer). x.verdict) (decode_within word None h tt)) ∙ e)
+        not_good kind word None verdict m n (sym (ap (λ (x : Answer). x.verdict) (decode_within word None h tt)) ∙ e)
     few_flips word (p ∷ []) verdict m n h b l e =
-        not_good kind word (flag_of p) p verdict m n (sym (ap (λ (x : Answer). x.verdict) (decode_within word p h (none_or _ _ p b.0))) ∙ e)
+        not_good kind word p verdict m n (sym (ap (λ (x : Answer). x.verdict) (decode_within word p h (none_or _ _ p b.0))) ∙ e)
     few_flips word (p ∷ q ∷ ps) verdict m n h b l e = omega arith
 
     any_flips : Frames.AnyFlips columns kind
@@ -391,28 +391,27 @@ frame_theorem columns kind len good = record {
         }
 
     -- a decoded word is that of an encoding, with the named bit flipped
-    near : (number word : ℕ) (raised : Bool) (wrong : WrongBit) → is_frame kind number ≡ true → stop_bit number ≡ 1
-        → decoded columns (received kind number) ≡ Word word raised wrong → Near columns kind number word raised wrong
-    near number word raised wrong i s e = record {
+    near : (number word : ℕ) (wrong : Option WrongBit) → is_frame kind number ≡ true → stop_bit number ≡ 1
+        → decoded columns (received kind number) ≡ Some (word_with word wrong) → Near columns kind number word wrong
+    near number word wrong i s e = record {
       word_below = below;
       protected = bit;
-      flag_of_bit = within.1;
       number_of =
-          sym (made_of_received kind number i) ∙ ap₂ (frame_number kind) within.0.word_is s
+          sym (made_of_received kind number i) ∙ ap₂ (frame_number kind) within.word_is s
           ∙ sym (flipped kind (encoded columns word) 1 wrong (omega arith) (fits_word word below) bit);
     }
       where
-        within : Within (check_bits kind) columns (received kind number) word wrong × (raised ≡ flag_of wrong)
-        within = corrects.answer_within (received kind number) (received_fits kind number).check_fits word raised wrong e
+        within : Within (check_bits kind) columns (received kind number) word wrong
+        within = corrects.answer_within (received kind number) (received_fits kind number).check_fits word wrong e
 
         below : word < 2 ^ data_bits kind
         below =
             subst (λ (n : ℕ). word < 2 ^ n) len
             (corrects.data_fits (received kind number) (subst⁻¹ (λ (n : ℕ). (received kind number).bits < 2 ^ n) len (received_fits kind number).bits_fit)
-            word raised wrong e)
+            word wrong e)
 
         bit : NoneOrProtected (data_bits kind) (check_bits kind) wrong
-        bit = subst (λ (n : ℕ). NoneOrProtected n (check_bits kind) wrong) len within.0.bit
+        bit = subst (λ (n : ℕ). NoneOrProtected n (check_bits kind) wrong) len within.bit
 
     only_if : Frames.DecodedOnlyIf columns kind
     only_if number flag place word fields e = (a.wrong, encoding)
@@ -420,11 +419,11 @@ frame_theorem columns kind len good = record {
         a : Answered columns kind number flag place word fields
         a = answered columns kind number flag place word fields e
 
-        g : GoodFrame columns kind number word a.raised a.wrong
-        g = good_frame columns kind number word a.raised a.wrong a.judged_good
+        g : GoodFrame columns kind number word a.wrong
+        g = good_frame columns kind number word a.wrong a.judged_good
 
-        n : Near columns kind number word a.raised a.wrong
-        n = near number word a.raised a.wrong a.is_a_frame g.stop_one g.word_decoded
+        n : Near columns kind number word a.wrong
+        n = near number word a.wrong a.is_a_frame g.stop_one g.word_decoded
 
         word_of_lem : word ≡ word_of kind fields
         word_of_lem = sym (ap (word_of kind) a.fields_of_lem ∙ word_back kind word n.word_below g.fixed_not_zero)
@@ -437,8 +436,8 @@ frame_theorem columns kind len good = record {
           stop = g.stop_one;
           number_is = number_of;
           bit = n.protected;
-          named = a.judged_good ∙ ap (λ (x : Bool). Good word x a.wrong) n.flag_of_bit;
-          flag_is = a.flag_of_lem ∙ ap (λ (x : Bool). cond x 1 0) n.flag_of_bit;
+          named = a.judged_good;
+          flag_is = a.flag_of_lem;
           place_is = a.place_of;
           clean_is =
               ap₂ (flip_at kind) a.place_of number_of ∙ flipped_back kind (encode_word columns kind (word_of kind fields)) a.wrong n.protected;
@@ -455,15 +454,15 @@ frame_theorem columns kind len good = record {
         by_judged i EvenSyndrome e = no_place kind 0 8 0
         by_judged i OddSyndrome e = no_place kind 0 11 0
         by_judged i (FixedZero word) e = no_place kind 0 9 word
-        by_judged i (Good word raised wrong) e =
-            let g = good_frame columns kind number word raised wrong e in
-            let n = near number word raised wrong i g.stop_one g.word_decoded in
+        by_judged i (Good word wrong) e =
+            let g = good_frame columns kind number word wrong e in
+            let n = near number word wrong i g.stop_one g.word_decoded in
             let laws = place_laws (data_bits kind) (check_bits kind) in
             let exactly = laws.zero_exactly wrong n.protected in
             record {
               zero_exactly = (
-                λ z. ap (λ (t : Bool). cond t 1 0) (n.flag_of_bit ∙ exactly.0 z),
-                λ z. exactly.1 (sym n.flag_of_bit ∙ zero_flag raised z),
+                λ z. ap (λ (t : Bool). cond t 1 0) (exactly.0 z),
+                λ z. exactly.1 (zero_flag (flag_of wrong) z),
               );
               last = laws.last wrong;
             }
@@ -471,13 +470,13 @@ frame_theorem columns kind len good = record {
     stop_exactly : Frames.StopExactly columns kind
     stop_exactly number i = (λ e. by_stop (eqb (stop_bit number) 0) refl e, λ e. decode_stopped columns kind number i e)
       where
-        never_7 : (s : ℕ) (d : Decoded) → (answer_by kind s d).verdict ≡ 7 → ⊥
-        never_7 s Uncorrectable e = by_ones (eqb (ones s % 2) 0) e
+        never_7 : (s : ℕ) (d : Option Word) → (answer_by kind s d).verdict ≡ 7 → ⊥
+        never_7 s None e = by_ones (eqb (ones s % 2) 0) e
           where
             by_ones : (even : Bool) → (answer_to kind (cond even EvenSyndrome OddSyndrome)).verdict ≡ 7 → ⊥
             by_ones true e = let z : ◌≡◌ {A = ℕ} 8 7 = e in omega arith
             by_ones false e = let z : ◌≡◌ {A = ℕ} 11 7 = e in omega arith
-        never_7 s (Word word flag p) e = not_good kind word flag p 7 (λ z. omega arith) (λ z. omega arith) e
+        never_7 s (Some w) e = not_good kind w.«data» w.wrong 7 (λ z. omega arith) (λ z. omega arith) e
 
         by_stop : (t : Bool) → eqb (stop_bit number) 0 ≡ t → decode_frame columns kind number ≡ bare_answer 0 7 0 → stop_bit number ≡ 0
         by_stop true z e = eqb-true (stop_bit number) 0 z
@@ -501,7 +500,7 @@ frame_theorem columns kind len good = record {
         syndrome : ℕ
         syndrome = syndrome_of columns (received kind number)
 
-        word_decoded : Decoded
+        word_decoded : Option Word
         word_decoded = decoded columns (received kind number)
 
         decodes : decode_frame columns kind number ≡ answer_to kind (judged_received columns kind (received kind number))
@@ -516,14 +515,14 @@ frame_theorem columns kind len good = record {
         none_near : (verdict : ℕ) → (0 ≡ verdict → ⊥) → (9 ≡ verdict → ⊥) → decode_frame columns kind number ≡ bare_answer 0 verdict 0
             → Frames.NoneNear columns kind number
         none_near verdict m k e word p h b n =
-            not_good kind word (flag_of p) p verdict m k
+            not_good kind word p verdict m k
             (ap (λ (x : Answer). x.verdict) (sym (decode_within word p h b) ∙ ap (decode_frame columns kind) (sym n) ∙ e))
 
-        no_word : Frames.NoneNear columns kind number → (d : Decoded) → decoded columns (received kind number) ≡ d → d ≡ Uncorrectable
-        no_word none Uncorrectable e = refl
-        no_word none (Word word raised wrong) e =
-            let n = near number word raised wrong i s e in
-            absurd (none word wrong n.word_below n.protected n.number_of)
+        no_word : Frames.NoneNear columns kind number → (d : Option Word) → decoded columns (received kind number) ≡ d → d ≡ None
+        no_word none None e = refl
+        no_word none (Some w) e =
+            let n = near number w.«data» w.wrong i s e in
+            absurd (none w.«data» w.wrong n.word_below n.protected n.number_of)
 
 pub short_frame_facts : Frames.ShortFrameFacts
 short_frame_facts = frame_theorem _ _ refl short_columns_good

@@ -1,6 +1,7 @@
 pub mod Numbers
-pub mod Columns
+pub mod OwnColumns
 pub mod Bits
 pub mod Place
 pub mod Words
 pub mod Frames
+pub mod Numbered

@@ -10,7 +10,9 @@ use lib.Bits.{bit_xor, xor_lt, xor_shr, xor_comm, xor_self}
 use lib.Pow.{pow_pos, pow-lt, pow-add, split, high, low, shr-shr, shl-shr}
 use Rattle.laws.proofs.Xor.{xor_back, xor_low_bit, xor_high_bit}
 use Rattle.hamming.specs.declared.WrongBit.{WrongBit}
-use Rattle.hamming.specs.declared.WrongBit.TheVariants.{None, Check, Data}
+use Rattle.hamming.specs.declared.WrongBit.TheVariants.{Check, Data}
+use Rattle.std.specs.declared.option.Option.{Option}
+use Rattle.std.specs.declared.option.Option.TheVariants.{Some, None}
 use Rattle.hamming.specs.Correction.{Coded, flip, NoneOrProtected}
 use Rattle.frame.specs.declared.Kind.{Kind}
 use Rattle.frame.specs.declared.Kind.TheVariants.{Short, Long}
@@ -81,23 +83,23 @@ made_of_received kind number e =
 
 -- ---- flips
 
-pub flipped : (kind : Kind) (sent : Coded) (stop : ℕ) (p : WrongBit) → stop < 2 → Fits kind sent → NoneOrProtected (data_bits kind) (check_bits kind) p
+pub flipped : (kind : Kind) (sent : Coded) (stop : ℕ) (p : Option WrongBit) → stop < 2 → Fits kind sent → NoneOrProtected (data_bits kind) (check_bits kind) p
     → flip_protected kind p (frame_number kind sent stop) ≡ frame_number kind (flip p sent) stop
 flipped kind sent stop None h f b = refl
-flipped kind sent stop (Check j) h f b =
+flipped kind sent stop (Some (Check j)) h f b =
     xor_high_bit 1 (front kind sent) stop j h
     ∙ ap (λ (x : ℕ). x * 2 + stop) (xor_low_bit (check_bits kind) (upper kind sent) sent.check j f.check_fits b)
-flipped kind sent stop (Data i) h f b =
+flipped kind sent stop (Some (Data i)) h f b =
     ap (λ (x : ℕ). bit_xor (frame_number kind sent stop) (2 ^ x)) (add_assoc 1 (check_bits kind) i)
     ∙ xor_high_bit 1 (front kind sent) stop (check_bits kind + i) h
     ∙ ap (λ (x : ℕ). x * 2 + stop)
     (xor_high_bit (check_bits kind) (upper kind sent) sent.check i f.check_fits
     ∙ ap (λ (x : ℕ). x * 2 ^ check_bits kind + sent.check) (xor_low_bit (data_bits kind) (format_bit kind) sent.bits i f.bits_fit b))
 
-pub flipped_fits : (kind : Kind) (sent : Coded) (p : WrongBit) → Fits kind sent → NoneOrProtected (data_bits kind) (check_bits kind) p → Fits kind (flip p sent)
+pub flipped_fits : (kind : Kind) (sent : Coded) (p : Option WrongBit) → Fits kind sent → NoneOrProtected (data_bits kind) (check_bits kind) p → Fits kind (flip p sent)
 flipped_fits kind sent None f b = f
-flipped_fits kind sent (Check j) f b = record { bits_fit = f.bits_fit; check_fits = xor_lt (check_bits kind) _ _ f.check_fits (pow-lt b) }
-flipped_fits kind sent (Data i) f b = record { bits_fit = xor_lt (data_bits kind) _ _ f.bits_fit (pow-lt b); check_fits = f.check_fits }
+flipped_fits kind sent (Some (Check j)) f b = record { bits_fit = f.bits_fit; check_fits = xor_lt (check_bits kind) _ _ f.check_fits (pow-lt b) }
+flipped_fits kind sent (Some (Data i)) f b = record { bits_fit = xor_lt (data_bits kind) _ _ f.bits_fit (pow-lt b); check_fits = f.check_fits }
 
 pub stop_flipped : (kind : Kind) (sent : Coded) → flip_stop (frame_number kind sent 1) ≡ frame_number kind sent 0
 stop_flipped kind sent = xor_low_bit 1 (front kind sent) 1 0 (omega arith) (omega arith)

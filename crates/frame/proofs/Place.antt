@@ -9,7 +9,9 @@ use lib.ListN.{length}
 use Rattle.laws.proofs.Xor.{xor_half, xor_low, xor_back}
 use Rattle.laws.proofs.Powers.{pow_half, pow_even}
 use Rattle.hamming.specs.declared.WrongBit.{WrongBit}
-use Rattle.hamming.specs.declared.WrongBit.TheVariants.{None, Check, Data}
+use Rattle.hamming.specs.declared.WrongBit.TheVariants.{Check, Data}
+use Rattle.std.specs.declared.option.Option.{Option}
+use Rattle.std.specs.declared.option.Option.TheVariants.{Some, None}
 use Rattle.hamming.specs.Correction.{NoneOrProtected}
 use Rattle.frame.specs.declared.Kind.{Kind}
 use Rattle.frame.specs.Numbers.{data_bits, check_bits, frame_bits}
@@ -23,22 +25,22 @@ use Rattle.frame.proofs.Bits.{bits_law}
 pub flips_at_place : (kind : Kind) → FlipsAtPlace kind
 unfolding flip_at
 flips_at_place kind number None b = refl
-flips_at_place kind number (Check j) b =
-    let some : place_in kind (Check j) ≡ 0 → ⊥ = λ e. omega arith in
-    rw (ne_eqb (place_in kind (Check j)) 0 some) (ap (λ (k : ℕ). bit_xor number (2 ^ k)) (omega arith))
-flips_at_place kind number (Data i) b =
-    let some : place_in kind (Data i) ≡ 0 → ⊥ = λ e. omega arith in
-    rw (ne_eqb (place_in kind (Data i)) 0 some) (ap (λ (k : ℕ). bit_xor number (2 ^ k)) (omega arith))
+flips_at_place kind number (Some (Check j)) b =
+    let some : place_in kind (Some (Check j)) ≡ 0 → ⊥ = λ e. omega arith in
+    rw (ne_eqb (place_in kind (Some (Check j))) 0 some) (ap (λ (k : ℕ). bit_xor number (2 ^ k)) (omega arith))
+flips_at_place kind number (Some (Data i)) b =
+    let some : place_in kind (Some (Data i)) ≡ 0 → ⊥ = λ e. omega arith in
+    rw (ne_eqb (place_in kind (Some (Data i))) 0 some) (ap (λ (k : ℕ). bit_xor number (2 ^ k)) (omega arith))
 
 -- flipped there again, a number is as it was
-pub flipped_back : (kind : Kind) (number : ℕ) (p : WrongBit) → NoneOrProtected (data_bits kind) (check_bits kind) p
+pub flipped_back : (kind : Kind) (number : ℕ) (p : Option WrongBit) → NoneOrProtected (data_bits kind) (check_bits kind) p
     → flip_at kind (place_in kind p) (flip_protected kind p number) ≡ number
 flipped_back kind number p b = flips_at_place kind (flip_protected kind p number) p b ∙ twice p
   where
-    twice : (q : WrongBit) → flip_protected kind q (flip_protected kind q number) ≡ number
+    twice : (q : Option WrongBit) → flip_protected kind q (flip_protected kind q number) ≡ number
     twice None = refl
-    twice (Check j) = xor_back number (2 ^ (1 + j))
-    twice (Data i) = xor_back number (2 ^ (1 + check_bits kind + i))
+    twice (Some (Check j)) = xor_back number (2 ^ (1 + j))
+    twice (Some (Data i)) = xor_back number (2 ^ (1 + check_bits kind + i))
 
 -- ---- in the order sent
 

@@ -1,11 +1,13 @@
 -- Document 01, "Frames on channel B" and "Fate of a finished frame", with document 02, Q-8: what decoding a frame number answers, over any columns.
 -- "Decoding a frame number without a receiver answers 7, 8 or 9 of the next table, with word and flag as there; else the fields and the
 -- corrected flag." Q-8 divides 8 into 8 and 11, and adds the place. `Judged` and `Answer` are an enum and a struct of src/lib.rt.
-use Rattle.std.specs.Prelude.{ℕ, ◌/◌, ◌%◌, ◌^◌, Bool, false, cond, List, eqb}
+use Rattle.std.specs.Prelude.{ℕ, ◌≡◌, ◌/◌, ◌%◌, ◌^◌, Bool, false, cond, List, eqb, Option, Some, None, Result, Ok, Err}
 use Rattle.std.specs.Int.Count.{ones}
-use Rattle.hamming.specs.declared.Decoded.{Decoded}
-use Rattle.hamming.specs.declared.Decoded.TheVariants.{Word, Uncorrectable}
-use Rattle.hamming.specs.Correction.{Coded, syndrome_of, decoded}
+use Rattle.hamming.specs.declared.Word.{Word}
+use Rattle.hamming.specs.Correction.{Coded, syndrome_of, decoded, flag_of}
+use Rattle.refusals.specs.declared.Refusal.{Refusal}
+use Rattle.refusals.specs.declared.Refusal.TheVariants.{Frame}
+use Rattle.refusals.specs.Refusals.{number}
 use Rattle.frame.specs.declared.Kind.{Kind}
 use Rattle.frame.specs.declared.Kind.TheVariants.{Short, Long}
 use Rattle.frame.specs.declared.Judged.{Judged}
@@ -22,9 +24,9 @@ fixed_zero Long word = eqb (word / 2 ^ 16 % 2) 0
 
 -- rows 8, 11 and 9 of the table: by the syndrome s, and by what the decoder of the word answers to it.
 -- Q-8: "Verdict 8 is kept for an even number of ones in the syndrome; verdict 11 is given for an odd number that belongs to no bit."
-abbrev pub judged_word : Kind → ℕ → Decoded → Judged
-judged_word kind s Uncorrectable = cond (eqb (ones s % 2) 0) EvenSyndrome OddSyndrome
-judged_word kind s (Word word flag wrong) = cond (fixed_zero kind word) (FixedZero word) (Good word flag wrong)
+abbrev pub judged_word : Kind → ℕ → Option Word → Judged
+judged_word kind s None = cond (eqb (ones s % 2) 0) EvenSyndrome OddSyndrome
+judged_word kind s (Some word) = cond (fixed_zero kind word.«data») (FixedZero word.«data») (Good word.«data» word.wrong)
 
 -- the same of a word as received
 abbrev pub judged_received : List ℕ → Kind → Coded → Judged
@@ -50,7 +52,7 @@ answer_to kind StopZero = bare_answer 0 7 0
 answer_to kind EvenSyndrome = bare_answer 0 8 0
 answer_to kind OddSyndrome = bare_answer 0 11 0
 answer_to kind (FixedZero word) = bare_answer 0 9 word
-answer_to kind (Good word flag wrong) = good_answer kind (cond flag 1 0) (place_in kind wrong) word
+answer_to kind (Good word wrong) = good_answer kind (cond (flag_of wrong) 1 0) (place_in kind wrong) word
 
 -- a frame whose start and format were tested before, over the columns of each kind
 unfoldable pub finished_answer : (Kind → List ℕ) → Kind → ℕ → Answer
@@ -59,3 +61,17 @@ finished_answer columns kind number = answer_to kind (judged (columns kind) kind
 -- refusal 12, "start, format or leading bits wrong for the length", is tested "first"
 unfoldable pub decode_frame : List ℕ → Kind → ℕ → Answer
 decode_frame columns kind number = cond (is_frame kind number) (answer_to kind (judged columns kind number)) (bare_answer 12 0 0)
+
+-- what a decoder answers: refusal 12, or what the frame is judged to be
+unfoldable pub decode_number : List ℕ → Kind → ℕ → Result Judged Refusal
+decode_number columns kind number = cond (is_frame kind number) (Ok (judged columns kind number)) (Err Frame)
+
+-- what C is handed in its place
+abbrev pub decoder_answer : Kind → Result Judged Refusal → Answer
+decoder_answer kind (Ok judged) = answer_to kind judged
+decoder_answer kind (Err refusal) = bare_answer (number refusal) 0 0
+
+-- it is the answer as the papers number it. Proved in proofs/Numbered.antt.
+abbrev pub DecodedAsNumbered : Type 0
+DecodedAsNumbered =
+    (columns : List ℕ) (kind : Kind) (number : ℕ) → decoder_answer kind (decode_number columns kind number) ≡ decode_frame columns kind number

@@ -1,6 +1,9 @@
 -- Document 01, "Frames on channel B": the fields of a frame, its word, and the encoders, over any columns.
-use Rattle.std.specs.Prelude.{ℕ, ◌+◌, ◌*◌, ◌/◌, ◌%◌, ◌^◌, cond, List, ltb}
+use Rattle.std.specs.Prelude.{ℕ, ◌+◌, ◌*◌, ◌/◌, ◌%◌, ◌^◌, ◌≡◌, cond, List, ltb, Result, Ok, Err}
 use Rattle.hamming.specs.Correction.{encoded}
+use Rattle.refusals.specs.declared.Refusal.{Refusal}
+use Rattle.refusals.specs.declared.Refusal.TheVariants.{Field}
+use Rattle.refusals.specs.Refusals.{number}
 use Rattle.frame.specs.declared.Kind.{Kind}
 use Rattle.frame.specs.declared.Kind.TheVariants.{Short, Long}
 use Rattle.frame.specs.declared.Fields.{Fields}
@@ -29,6 +32,11 @@ encode_fields columns kind fields = encode_word columns kind (word_of kind field
 abbrev pub broadcast : ℕ → Fields
 broadcast byte = record { address = 0; e = 0; sub = 0; «data» = byte }
 
+-- what C is handed by an encoder: the number of refusal, and the frame, 0 where refused
+abbrev pub encoder_answer : Result ℕ Refusal → Encoded
+encoder_answer (Ok frame) = record { refusal = 0; number = frame }
+encoder_answer (Err refusal) = record { refusal = number refusal; number = 0 }
+
 abbrev pub encode_short : List ℕ → ℕ → Encoded
 encode_short columns byte = record { refusal = 0; number = encode_fields columns Short (broadcast byte) }
 
@@ -41,3 +49,15 @@ encode_long columns address e sub byte =
     cond (ltb 16383 address) refused13
     (cond (ltb 1 e) refused13
     (record { refusal = 0; number = encode_fields columns Long (record { address = address; e = e; sub = sub; «data» = byte }) }))
+
+-- what the encoder answers: refusal 13, or the frame
+unfoldable pub encode_number : List ℕ → ℕ → ℕ → ℕ → ℕ → Result ℕ Refusal
+encode_number columns address e sub byte =
+    cond (ltb 16383 address) (Err Field)
+    (cond (ltb 1 e) (Err Field)
+    (Ok (encode_fields columns Long (record { address = address; e = e; sub = sub; «data» = byte }))))
+
+-- it is the answer as the papers number it. Proved in proofs/Numbered.antt.
+abbrev pub EncodedAsNumbered : Type 0
+EncodedAsNumbered =
+    (columns : List ℕ) (address e sub byte : ℕ) → encoder_answer (encode_number columns address e sub byte) ≡ encode_long columns address e sub byte

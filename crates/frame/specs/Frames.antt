@@ -1,11 +1,11 @@
 -- Document 01, "Frames on channel B", with document 02, Q-8: what decoding answers to a frame that was encoded, clean or damaged, and conversely; over both kinds
 -- and any good columns.
 -- Proved in proofs/Frames.antt from the facts of the code.
-use Rattle.std.specs.Prelude.{ℕ, ◌+◌, ◌/◌, ◌%◌, ◌^◌, ◌≤◌, ◌<◌, ◌≡◌, ◌≢◌, ◌⊎◌, ◌↔◌, true, false, cond, List, [], ◌∷◌, length}
+use Rattle.std.specs.Prelude.{ℕ, ◌+◌, ◌/◌, ◌%◌, ◌^◌, ◌≤◌, ◌<◌, ◌≡◌, ◌≢◌, ◌⊎◌, ◌↔◌, true, false, cond, List, [], ◌∷◌, length, Option, Some, None}
 use Rattle.std.specs.Int.Bits.{bit_xor}
 use Rattle.std.specs.Int.Count.{ones}
 use Rattle.hamming.specs.declared.WrongBit.{WrongBit}
-use Rattle.hamming.specs.declared.WrongBit.TheVariants.{None, Check, Data}
+use Rattle.hamming.specs.declared.WrongBit.TheVariants.{Check, Data}
 use Rattle.hamming.specs.Columns.{short_columns, long_columns}
 use Rattle.hamming.specs.Correction.{Protected, NoneOrProtected, EachProtected, flag_of, syndrome_of, GoodColumns}
 use Rattle.frame.specs.declared.Kind.{Kind}
@@ -25,24 +25,24 @@ InRange Short fields = (fields ≡ broadcast fields.«data») × (fields.«data�
 InRange Long fields = (fields.address < 2 ^ 14) × (fields.e < 2) × (fields.sub < 2 ^ 8) × (fields.«data» < 2 ^ 8)
 
 -- the frame number with that protected bit flipped. The stop bit is bit 0 of the number, the check bits follow, then the data bits.
-abbrev pub flip_protected : Kind → WrongBit → ℕ → ℕ
+abbrev pub flip_protected : Kind → Option WrongBit → ℕ → ℕ
 flip_protected kind None number = number
-flip_protected kind (Check j) number = bit_xor number (2 ^ (1 + j))
-flip_protected kind (Data i) number = bit_xor number (2 ^ (1 + check_bits kind + i))
+flip_protected kind (Some (Check j)) number = bit_xor number (2 ^ (1 + j))
+flip_protected kind (Some (Data i)) number = bit_xor number (2 ^ (1 + check_bits kind + i))
 
 abbrev pub flip_stop : ℕ → ℕ
 flip_stop number = bit_xor number (2 ^ 0)
 
 -- a protected bit of such a frame: one of its data or check bits
-abbrev pub ProtectedIn : Kind → WrongBit → Type 0
+abbrev pub ProtectedIn : Kind → Option WrongBit → Type 0
 ProtectedIn kind p = Protected (data_bits kind) (check_bits kind) p
 
 -- these bits flipped, one after the other
-abbrev pub flip_each_protected : Kind → List WrongBit → ℕ → ℕ
+abbrev pub flip_each_protected : Kind → List (Option WrongBit) → ℕ → ℕ
 flip_each_protected kind [] number = number
 flip_each_protected kind (p ∷ ps) number = flip_protected kind p (flip_each_protected kind ps number)
 
-abbrev pub EachProtectedIn : Kind → List WrongBit → Type 0
+abbrev pub EachProtectedIn : Kind → List (Option WrongBit) → Type 0
 EachProtectedIn kind flips = EachProtected (data_bits kind) (check_bits kind) flips
 
 -- a leading bit flipped, none of which is protected: number 0 is the format bit, 1 the start bit, and the others lie above the frame
@@ -83,13 +83,13 @@ RoundTrip columns kind =
 -- one protected bit flipped: the same fields, with flag 1 and the place of that bit
 abbrev pub OneFlip : List ℕ → Kind → Type 0
 OneFlip columns kind =
-    (fields : Fields) (p : WrongBit) → InRange kind fields → ProtectedIn kind p
+    (fields : Fields) (p : Option WrongBit) → InRange kind fields → ProtectedIn kind p
     → decode_frame columns kind (flip_protected kind p (encode_fields columns kind fields)) ≡ fields_answer kind 1 (place_in kind p) fields
 
 -- two different ones, of any encoded word, also one whose fixed bit is 0: verdict 8
 abbrev pub TwoFlips : List ℕ → Kind → Type 0
 TwoFlips columns kind =
-    (word : ℕ) (p q : WrongBit) → word < 2 ^ data_bits kind → ProtectedIn kind p → ProtectedIn kind q → p ≢ q
+    (word : ℕ) (p q : Option WrongBit) → word < 2 ^ data_bits kind → ProtectedIn kind p → ProtectedIn kind q → p ≢ q
     → decode_frame columns kind (flip_protected kind q (flip_protected kind p (encode_word columns kind word))) ≡ bare_answer 0 8 0
 
 -- any number of protected bits flipped, of any encoded word: an odd number never gives 8, and an even number never 11; 8 means two or more, 11 three or
@@ -108,13 +108,13 @@ pub record Flipped (columns : List ℕ) (kind : Kind) (count number : ℕ) : Typ
 
 abbrev pub AnyFlips : List ℕ → Kind → Type 0
 AnyFlips columns kind =
-    (word : ℕ) (flips : List WrongBit) → word < 2 ^ data_bits kind → EachProtectedIn kind flips
+    (word : ℕ) (flips : List (Option WrongBit)) → word < 2 ^ data_bits kind → EachProtectedIn kind flips
     → Flipped columns kind (length flips) (flip_each_protected kind flips (encode_word columns kind word))
 
 -- a bit flipped is the bit at its place flipped
 abbrev pub FlipsAtPlace : Kind → Type 0
 FlipsAtPlace kind =
-    (number : ℕ) (p : WrongBit) → NoneOrProtected (data_bits kind) (check_bits kind) p → flip_at kind (place_in kind p) number ≡ flip_protected kind p number
+    (number : ℕ) (p : Option WrongBit) → NoneOrProtected (data_bits kind) (check_bits kind) p → flip_at kind (place_in kind p) number ≡ flip_protected kind p number
 
 -- of every number, refused ones too: the place "is 0 where the flag is 0", and only there; no place is beyond the frame's last check bit
 pub record PlaceByFlag (kind : Kind) (answer : Answer) : Type 0 where
@@ -160,13 +160,13 @@ FixedIsZero Long word = word / 2 ^ 16 % 2 ≡ 0
 -- such a word encoded, with no bit or one protected bit flipped: verdict 9, with that word
 abbrev pub FixedBitZero : List ℕ → Kind → Type 0
 FixedBitZero columns kind =
-    (word : ℕ) (p : WrongBit) → word < 2 ^ data_bits kind → FixedIsZero kind word → NoneOrProtected (data_bits kind) (check_bits kind) p
+    (word : ℕ) (p : Option WrongBit) → word < 2 ^ data_bits kind → FixedIsZero kind word → NoneOrProtected (data_bits kind) (check_bits kind) p
     → decode_frame columns kind (flip_protected kind p (encode_word columns kind word)) ≡ bare_answer 0 9 word
 
 -- no encoded word is within one flip of the number
 abbrev pub NoneNear : List ℕ → Kind → ℕ → Type 0
 NoneNear columns kind number =
-    (word : ℕ) (p : WrongBit) → word < 2 ^ data_bits kind → NoneOrProtected (data_bits kind) (check_bits kind) p
+    (word : ℕ) (p : Option WrongBit) → word < 2 ^ data_bits kind → NoneOrProtected (data_bits kind) (check_bits kind) p
     → number ≡ flip_protected kind p (encode_word columns kind word) → ⊥
 
 -- a frame whose stop bit is 1 gets verdict 8 or 11 exactly when that is so, by the number of ones in its syndrome: 8 if it is even, 11 if it is odd
@@ -180,11 +180,11 @@ UncorrectableExactly columns kind =
 
 -- conversely: the number has stop bit 1 and is the encoding of these fields with bit p flipped, which is none or a protected one, and is
 -- the bit that the decoder of the word names; flipped at its place, it is the clean frame
-pub record EncodingOf (columns : List ℕ) (kind : Kind) (number flag place word : ℕ) (fields : Fields) (p : WrongBit) : Type 0 where
+pub record EncodingOf (columns : List ℕ) (kind : Kind) (number flag place word : ℕ) (fields : Fields) (p : Option WrongBit) : Type 0 where
   pub stop : stop_bit number ≡ 1
   pub number_is : number ≡ flip_protected kind p (encode_fields columns kind fields)
   pub bit : NoneOrProtected (data_bits kind) (check_bits kind) p
-  pub named : judged columns kind number ≡ Good word (flag_of p) p
+  pub named : judged columns kind number ≡ Good word p
   pub flag_is : flag ≡ cond (flag_of p) 1 0
   pub place_is : place ≡ place_in kind p
   pub clean_is : flip_at kind place number ≡ encode_fields columns kind fields
@@ -196,7 +196,7 @@ abbrev pub DecodedOnlyIf : List ℕ → Kind → Type 0
 DecodedOnlyIf columns kind =
     (number flag place word : ℕ) (fields : Fields)
     → decode_frame columns kind number ≡ record { refusal = 0; verdict = 0; corrected = flag; place = place; word = word; fields = fields }
-    → (p : WrongBit) × EncodingOf columns kind number flag place word fields p
+    → (p : Option WrongBit) × EncodingOf columns kind number flag place word fields p
 
 pub record FrameFacts (columns : List ℕ) (kind : Kind) : Type 0 where
   pub encodes_in_range : EncodesInRange columns kind

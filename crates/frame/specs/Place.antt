@@ -1,6 +1,6 @@
 -- Document 02, Q-8: places in a frame. Proved in proofs/Place.antt.
 -- "1 to 39 counts the frame's bits after the format bit, in the order sent"
-use Rattle.std.specs.Prelude.{ℕ, ◌+◌, ◌-◌, ◌^◌, ◌≤◌, ◌≡◌, cond, List, eqb, get_or, set}
+use Rattle.std.specs.Prelude.{ℕ, ◌+◌, ◌-◌, ◌^◌, ◌≤◌, ◌≡◌, cond, List, eqb, get_or, set, Option}
 use Rattle.std.specs.Int.Bits.{bit_xor}
 use Rattle.hamming.specs.declared.WrongBit.{WrongBit}
 use Rattle.hamming.specs.Place.{place_of}
@@ -18,7 +18,7 @@ abbrev pub largest_place : ℕ
 largest_place = places Long
 
 -- the place of the bit that the decoder names, 0 for none
-abbrev pub place_in : Kind → WrongBit → ℕ
+abbrev pub place_in : Kind → Option WrongBit → ℕ
 place_in kind wrong = place_of (data_bits kind) (check_bits kind) wrong
 
 -- the frame number with the bit at that place flipped, and none at place 0. The stop bit is bit 0 of the number, so the last place is bit 1.

@@ -12,7 +12,7 @@ use Rattle.laws.proofs.Rules.{by_test}
 use Rattle.frame.specs.declared.Kind.{Kind}
 use Rattle.frame.specs.Columns.{columns_of, GoodTables}
 use Rattle.frame.specs.Bits.{Bits}
-use Rattle.frame.proofs.Columns.{tables_good}
+use Rattle.frame.proofs.OwnColumns.{tables_good}
 use Rattle.receiver_state.specs.declared.Core.{Core}
 use Rattle.receiver_state.specs.declared.Held.{Held}
 use Rattle.receiver_state.specs.declared.Receiver.{Receiver}

@@ -1,7 +1,7 @@
 -- Every block is its clocks done singly, and cuts of it never show. Assumes nothing.
 use mathlib.Core.Path.{◌≡◌, refl, sym, ap, ap₂, subst, ◌∙◌}
 use mathlib.Core.Logic.{◌≢◌, ◌⊎◌, inl, inr, ⊎_elim, ◌↔◌}
-use mathlib.Core.Bool.{Bool, true, false, not, cond, false≢true}
+use mathlib.Core.Bool.{Bool, true, false, not, cond, false≢true, or-true}
 use mathlib.Core.List.{List, [], ◌∷◌, ◌++◌, map, append_assoc}
 use Prim.Native.Nat.{ℕ, zero, suc, ◌+◌, ◌*◌, ◌<◌, ◌≤◌}
 use native.Mathlib.Nat.{add-zero, zero-add, add-suc, suc-add, mod-lt}
@@ -10,7 +10,7 @@ use borrow.Author.Tests.{eq-eqb, ne_eqb, eqb-false, lt-ltb, le-ltb, ltb-false, l
 use lib.Dec.{eqb, ltb, leb, lit<}
 use lib.ListN.{length, take, drop, get_or, length-append, length-drop, length-map, get_or-append}
 use lib.Seq.{length-take-le, take-suc, take-length, take_at, drop_at, get_or-append-add}
-use Rattle.laws.proofs.Rules.{or_true, picked, picked_by, by_test}
+use Rattle.laws.proofs.Rules.{picked, picked_by, by_test}
 use Rattle.laws.proofs.Table.{all_entries}
 use Rattle.trace.specs.Record.{record_numbers, trace_record, numbers_of}
 use Rattle.trace.specs.Filled.{filled_length, filled_part}
@@ -19,7 +19,7 @@ use Rattle.receiver_state.specs.declared.Receiver.{Receiver}
 use Rattle.receiver_state.specs.WellFormed.{well_formed}
 use Rattle.receiver_state.specs.declared.Outputs.{Outputs}
 use Rattle.frame.specs.Columns.{columns_of}
-use Rattle.frame.proofs.Columns.{tables_good}
+use Rattle.frame.proofs.OwnColumns.{tables_good}
 use Rattle.trace.specs.declared.TraceRecord.{TraceRecord}
 use Rattle.receiver.specs.Laws.{Accepted, ClockLaws}
 use Rattle.trace.specs.Block.{trigger_bit, channel_bit, byte_clock, SingleClock, singly, state_after, recorded, record_of, records_of, all_numbers, block_records, BlockDone, refused_block, accepted_block, block_clocks, no_byte_over_3, run_block}
@@ -305,7 +305,7 @@ module _ (columns : Kind → List ℕ) (laws : ClockLaws columns) where
         (λ some. inl (let n : shown.trigger ≢ 0 = eqb-false shown.trigger 0 some in omega (arith, e, n))),
     ⊎_elim
         (λ t. let n : shown.trigger ≢ 0 = some_trigger shown.trigger (e ∙ t) in rw (ne_eqb shown.trigger 0 n) refl)
-        (λ v. rw (ne_eqb shown.verdict 0 v) (or_true (not (eqb shown.trigger 0)))),
+        (λ v. rw (ne_eqb shown.verdict 0 v) (or-true (not (eqb shown.trigger 0)))),
   )
     where
       some_trigger : (n : ℕ) → n ≡ 1 → n ≢ 0

@@ -16,7 +16,7 @@ use Rattle.frame.specs.Encode.{word_of, encode_fields}
 use Rattle.frame.specs.Place.{place_in}
 use Rattle.frame.specs.Decode.{decode_frame, finished_answer}
 use Rattle.frame.specs.Frames.{InRange, flip_protected, fields_answer, FrameFacts}
-use Rattle.frame.proofs.Columns.{tables_good}
+use Rattle.frame.proofs.OwnColumns.{tables_good}
 use Rattle.frame.proofs.Frames.{frame_theorem}
 use Rattle.frame.proofs.Words.{word_fits}
 use Rattle.receiver_state.specs.declared.Receiver.{Receiver}

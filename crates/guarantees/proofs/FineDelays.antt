@@ -18,7 +18,7 @@ use Rattle.frame.specs.declared.Fields.{Fields}
 use Rattle.frame.specs.Columns.{columns_of}
 use Rattle.frame.specs.Place.{place_in}
 use Rattle.frame.specs.Frames.{InRange}
-use Rattle.frame.proofs.Columns.{tables_good}
+use Rattle.frame.proofs.OwnColumns.{tables_good}
 use Rattle.receiver_state.specs.declared.Ids.{Ids}
 use Rattle.receiver_state.specs.declared.Receiver.{Receiver}
 use Rattle.receiver_state.specs.declared.FreshAnswer.{FreshAnswer}

@@ -10,7 +10,7 @@ use Rattle.frame.specs.declared.Answer.{Answer}
 use Rattle.frame.specs.Columns.{columns_of, GoodTables}
 use Rattle.frame.specs.Encode.{word_of, encode_fields}
 use Rattle.frame.specs.Frames.{flip_each_protected, FlipsShow}
-use Rattle.frame.proofs.Columns.{tables_good}
+use Rattle.frame.proofs.OwnColumns.{tables_good}
 use Rattle.frame.proofs.Frames.{frame_theorem}
 use Rattle.frame.proofs.Words.{word_fits}
 use Rattle.receiver_state.specs.declared.Outputs.{Outputs}

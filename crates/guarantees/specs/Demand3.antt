@@ -4,7 +4,7 @@
 -- cites, with `ClockLaws` of the crate `receiver`, `ReadLaws` and `WriteLaws` of `registers` and `ByteLaws` of `register_map`; of these, the record
 -- repeats only what a refused call leaves and answers, and that a read leaves the state.
 -- Words in quotation marks that document 01 does not have are the customer's demand 3.
-use Rattle.std.specs.Prelude.{ℕ, ◌≡◌, ◌≢◌, true, List, ◌++◌, map, replicate}
+use Rattle.std.specs.Prelude.{ℕ, ◌≡◌, ◌≢◌, true, List, ◌++◌, map, replicate, Option}
 use Rattle.hamming.specs.declared.WrongBit.{WrongBit}
 use Rattle.frame.specs.declared.Kind.{Kind}
 use Rattle.frame.specs.declared.Fields.{Fields}
@@ -79,7 +79,7 @@ module _ (columns : Kind → List ℕ) where
   -- "With one protected bit flipped and all else the same": p is that bit. Q-8: the place is that of the bit.
   abbrev pub OneFlip : Type 0
   OneFlip =
-      (r : Receiver) (clean flipped : List Call) (trigger sent bit : ℕ) (kind : Kind) (fields : Fields) (p : WrongBit)
+      (r : Receiver) (clean flipped : List Call) (trigger sent bit : ℕ) (kind : Kind) (fields : Fields) (p : Option WrongBit)
       → InRange kind fields → ProtectedIn kind p
       → Sends r clean trigger sent kind (encoded kind fields)
       → Sends r flipped trigger bit kind (flip_protected kind p (encoded kind fields))
@@ -95,7 +95,7 @@ module _ (columns : Kind → List ℕ) where
   -- "With two flipped": p and q. Q-8: "two flips always give 8"
   abbrev pub TwoFlips : Type 0
   TwoFlips =
-      (r : Receiver) (before : List Call) (trigger bit : ℕ) (kind : Kind) (fields : Fields) (p q : WrongBit)
+      (r : Receiver) (before : List Call) (trigger bit : ℕ) (kind : Kind) (fields : Fields) (p q : Option WrongBit)
       → InRange kind fields → ProtectedIn kind p → ProtectedIn kind q → p ≢ q
       → Sends r before trigger bit kind (flip_protected kind q (flip_protected kind p (encoded kind fields)))
       → UncorrectableFrame r before trigger bit 8

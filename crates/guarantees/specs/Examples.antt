@@ -1,6 +1,6 @@
 -- Document 01, "Demand 3, over lists of calls", and document 02, Q-1 and Q-8: lists of calls whose answers are computed, from the fresh state of
 -- ID 5 and I2C ID 5. Proved in proofs/Examples.antt.
-use Rattle.std.specs.Prelude.{ℕ, zero, suc, ◌≡◌, true, List, [], ◌∷◌, ◌++◌, map, replicate}
+use Rattle.std.specs.Prelude.{ℕ, zero, suc, ◌≡◌, true, List, [], ◌∷◌, ◌++◌, map, replicate, Some}
 use Rattle.hamming.specs.declared.WrongBit.TheVariants.{Data, Check}
 use Rattle.frame.specs.declared.Kind.TheVariants.{Short}
 use Rattle.frame.specs.Numbers.{frame_bits}
@@ -90,25 +90,25 @@ pub record TwentyCalls : Type 0 where
   -- clean: verdict 1, word 1, and the bunch counter cleared
   pub clean : Gives (sending frame) (broadcast_last 0 0 1) (0 ∷ 0 ∷ 1 ∷ 0 ∷ 2 ∷ 1 ∷ 0 ∷ [])
   -- one flip, of the first data bit: the same with flag 1, place 1 and one single error
-  pub one_flip : Gives (sending (flip_protected Short (Data 7) frame)) (broadcast_last 1 1 1) (1 ∷ 0 ∷ 1 ∷ 0 ∷ 2 ∷ 1 ∷ 0 ∷ [])
+  pub one_flip : Gives (sending (flip_protected Short (Some (Data 7)) frame)) (broadcast_last 1 1 1) (1 ∷ 0 ∷ 1 ∷ 0 ∷ 2 ∷ 1 ∷ 0 ∷ [])
   -- and of the last check bit: place 13
-  pub check_flip : Gives (sending (flip_protected Short (Check 0) frame)) (broadcast_last 1 13 1) (1 ∷ 0 ∷ 1 ∷ 0 ∷ 2 ∷ 1 ∷ 0 ∷ [])
+  pub check_flip : Gives (sending (flip_protected Short (Some (Check 0)) frame)) (broadcast_last 1 13 1) (1 ∷ 0 ∷ 1 ∷ 0 ∷ 2 ∷ 1 ∷ 0 ∷ [])
   -- two flips: verdict 8, and the idle list's numbers with one double error
-  pub two_flips : Gives (sending (flip_each_protected Short (Check 0 ∷ Data 7 ∷ []) frame)) (dropped_last 8) (0 ∷ 1 ∷ 1 ∷ 16 ∷ 2 ∷ 1 ∷ 0 ∷ [])
+  pub two_flips : Gives (sending (flip_each_protected Short (Some (Check 0) ∷ Some (Data 7) ∷ []) frame)) (dropped_last 8) (0 ∷ 1 ∷ 1 ∷ 16 ∷ 2 ∷ 1 ∷ 0 ∷ [])
 
 -- ---- more flips
 
 -- more than two flips, of which demand 3 claims nothing: what 8 and 11 show of them, and what they do not
 pub record MoreFlips : Type 0 where
   -- three, of data bits 0, 1 and 6: the syndrome is 26, which belongs to no bit; verdict 11
-  pub three_flips : Gives (sending (flip_each_protected Short (Data 0 ∷ Data 1 ∷ Data 6 ∷ []) frame)) (dropped_last 11) (0 ∷ 1 ∷ 1 ∷ 16 ∷ 2 ∷ 1 ∷ 0 ∷ [])
+  pub three_flips : Gives (sending (flip_each_protected Short (Some (Data 0) ∷ Some (Data 1) ∷ Some (Data 6) ∷ []) frame)) (dropped_last 11) (0 ∷ 1 ∷ 1 ∷ 16 ∷ 2 ∷ 1 ∷ 0 ∷ [])
   -- three others look like one: the broadcast of byte 0, sent with data bits 0, 1 and 2 flipped, is taken for that of byte 7 with a wrong check bit, is
   -- executed, and clears the bunch and the event counter. The place is that of a check bit, which was not flipped.
-  pub three_as_one : Gives (sending (flip_each_protected Short (Data 2 ∷ Data 1 ∷ Data 0 ∷ []) zero_frame)) (broadcast_last 1 13 7) (1 ∷ 0 ∷ 1 ∷ 0 ∷ 0 ∷ 1 ∷ 0 ∷ [])
+  pub three_as_one : Gives (sending (flip_each_protected Short (Some (Data 2) ∷ Some (Data 1) ∷ Some (Data 0) ∷ []) zero_frame)) (broadcast_last 1 13 7) (1 ∷ 0 ∷ 1 ∷ 0 ∷ 0 ∷ 1 ∷ 0 ∷ [])
   -- four look like two: verdict 8
-  pub four_as_two : Gives (sending (flip_each_protected Short (Check 0 ∷ Data 7 ∷ Data 6 ∷ Data 5 ∷ []) frame)) (dropped_last 8) (0 ∷ 1 ∷ 1 ∷ 16 ∷ 2 ∷ 1 ∷ 0 ∷ [])
+  pub four_as_two : Gives (sending (flip_each_protected Short (Some (Check 0) ∷ Some (Data 7) ∷ Some (Data 6) ∷ Some (Data 5) ∷ []) frame)) (dropped_last 8) (0 ∷ 1 ∷ 1 ∷ 16 ∷ 2 ∷ 1 ∷ 0 ∷ [])
   -- four others look like none: the broadcast of byte 0 becomes that of byte 7
-  pub four_as_none : Gives (sending (flip_each_protected Short (Check 0 ∷ Data 2 ∷ Data 1 ∷ Data 0 ∷ []) zero_frame)) (broadcast_last 0 0 7) (0 ∷ 0 ∷ 1 ∷ 0 ∷ 0 ∷ 1 ∷ 0 ∷ [])
+  pub four_as_none : Gives (sending (flip_each_protected Short (Some (Check 0) ∷ Some (Data 2) ∷ Some (Data 1) ∷ Some (Data 0) ∷ []) zero_frame)) (broadcast_last 0 0 7) (0 ∷ 0 ∷ 1 ∷ 0 ∷ 0 ∷ 1 ∷ 0 ∷ [])
 
 -- ---- 40 ones are not enough
 

@@ -1,6 +1,6 @@
 -- Document 02, Q-4, "No delay byte without a setting", over lists of calls: what registers 0 and 1 hold, and the frames that would store a byte
 -- without a setting. Proved in proofs/FineDelays.antt.
-use Rattle.std.specs.Prelude.{ℕ, ◌≤◌, ◌≡◌, true, false, List}
+use Rattle.std.specs.Prelude.{ℕ, ◌≤◌, ◌≡◌, true, false, List, Option}
 use Rattle.hamming.specs.declared.WrongBit.{WrongBit}
 use Rattle.fine_delay.specs.Delay.{setting_of, setting_to_byte}
 use Rattle.fine_delay.specs.Laws.{IsByteOf}
@@ -93,7 +93,7 @@ module _ (columns : Kind → List ℕ) where
   -- one protected bit flipped: flag 1, the place of that bit, and "corrected flag and single counter as for verdict 2". The corrected data decide: p may be one of their bits.
   abbrev pub OneFlipVerdict10 : Type 0
   OneFlipVerdict10 =
-      (r : Receiver) (clean flipped : List Call) (trigger sent bit : ℕ) (fields : Fields) (p : WrongBit)
+      (r : Receiver) (clean flipped : List Call) (trigger sent bit : ℕ) (fields : Fields) (p : Option WrongBit)
       → InRange Long fields → InternalWithoutSetting fields r.core.ids.id → ProtectedIn Long p
       → Sends r clean trigger sent Long (encode_fields (columns Long) Long fields)
       → Sends r flipped trigger bit Long (flip_protected Long p (encode_fields (columns Long) Long fields))

@@ -3,7 +3,7 @@
 -- Proved in proofs/Flips.antt. One flip and two are in Demand3.antt.
 -- "Shift leaders want to tell two flips from a storm. Verdict 8 is kept for an even number of ones in the syndrome; verdict 11 is given for an odd number
 -- that belongs to no bit."
-use Rattle.std.specs.Prelude.{ℕ, ◌≡◌, ◌⊎◌, List, length}
+use Rattle.std.specs.Prelude.{ℕ, ◌≡◌, ◌⊎◌, List, length, Option}
 use Rattle.hamming.specs.declared.WrongBit.{WrongBit}
 use Rattle.frame.specs.declared.Kind.{Kind}
 use Rattle.frame.specs.declared.Fields.{Fields}
@@ -27,7 +27,7 @@ module _ (columns : Kind → List ℕ) where
   -- the bits `flips` of a properly encoded frame are flipped, one after the other
   abbrev pub AnyFlips : Type 0
   AnyFlips =
-      (r : Receiver) (before : List Call) (trigger bit : ℕ) (kind : Kind) (fields : Fields) (flips : List WrongBit)
+      (r : Receiver) (before : List Call) (trigger bit : ℕ) (kind : Kind) (fields : Fields) (flips : List (Option WrongBit))
       → InRange kind fields → EachProtectedIn kind flips
       → Sends r before trigger bit kind (flip_each_protected kind flips (encode_fields (columns kind) kind fields))
       → FlipsFrame r before trigger bit (length flips)

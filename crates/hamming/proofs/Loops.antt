@@ -10,7 +10,7 @@ use lib.ListN.{length, get_or, drop, drop_of_length-le}
 use lib.Seq.{drop-cons}
 use lib.Bits.{bit_xor, xor_zero_r}
 use Rattle.laws.proofs.Xor.{xor_assoc}
-use Rattle.hamming.specs.declared.Found.TheVariants.{At, Nothing}
+use Rattle.std.specs.declared.option.Option.TheVariants.{Some, None}
 use Rattle.hamming.specs.Code.{check_number, first_from}
 
 -- ---- the check number, gathered so far and still to come
@@ -32,7 +32,7 @@ check_end cs i rest check h = rw (drop_of_length-le cs h) (xor_zero_r check)
 
 -- ---- the search, from i on
 
-pub find_here : (cs : List ℕ) (i s : ℕ) → i < length cs → get_or cs i 0 ≡ s → first_from i (drop i cs) s ≡ At i
+pub find_here : (cs : List ℕ) (i s : ℕ) → i < length cs → get_or cs i 0 ≡ s → first_from i (drop i cs) s ≡ Some i
 unfolding first_from
 find_here cs i s h e = rw (drop-cons cs i 0, eq-eqb _ _ e)
 
@@ -40,6 +40,6 @@ pub find_on : (cs : List ℕ) (i s : ℕ) → i < length cs → (get_or cs i 0 �
 unfolding first_from
 find_on cs i s h e = rw (add-one, drop-cons cs i 0, ne_eqb _ _ e)
 
-pub find_end : (cs : List ℕ) (i s : ℕ) → length cs ≤ i → first_from i (drop i cs) s ≡ Nothing
+pub find_end : (cs : List ℕ) (i s : ℕ) → length cs ≤ i → first_from i (drop i cs) s ≡ None
 unfolding first_from
 find_end cs i s h = rw (drop_of_length-le cs h)

@@ -1,10 +1,8 @@
 -- Document 01, "Frames on channel B": the table of columns, and its rule. Proved in proofs/Columns.antt.
-use Rattle.std.specs.Prelude.{ℕ, ◌^◌, ◌<◌, ◌≡◌, Bool, true, false, cond, List, [], ◌∷◌, eqb, ltb, take, get_or}
+use Rattle.std.specs.Prelude.{ℕ, ◌^◌, ◌<◌, ◌≡◌, Bool, true, false, cond, List, [], ◌∷◌, eqb, ltb, take, get_or, Option, Some, None}
 use Rattle.std.specs.Int.Count.{ones}
 use Rattle.laws.specs.Tests.{every}
 use Rattle.laws.specs.Table.{every_entry}
-use Rattle.hamming.specs.declared.Found.{Found}
-use Rattle.hamming.specs.declared.Found.TheVariants.{At, Nothing}
 use Rattle.hamming.specs.Code.{first_equal}
 
 -- "each data bit i (0 = least) has a column number"; "Columns for bits 0..31"
@@ -28,9 +26,9 @@ abbrev pub width_at : ℕ → ℕ
 width_at i = cond (ltb i 8) 5 7
 
 -- the search found bit i
-abbrev pub is_at : ℕ → Found → Bool
-is_at i (At k) = eqb k i
-is_at i Nothing = false
+abbrev pub is_at : ℕ → Option ℕ → Bool
+is_at i (Some k) = eqb k i
+is_at i None = false
 
 -- "Each has exactly three one bits and no two are equal", and it fits: the tests of the column of bit i.
 -- That no two are equal is tested as: the first column of the table that equals it is its own.

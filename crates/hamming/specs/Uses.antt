@@ -1,6 +1,5 @@
 -- Document 01's two uses of the correction theorem, and its trap. Proved in proofs/Uses.antt.
-use Rattle.std.specs.Prelude.{ℕ, ◌≡◌, ◌⊎◌}
-use Rattle.hamming.specs.declared.Decoded.TheVariants.{Uncorrectable}
+use Rattle.std.specs.Prelude.{ℕ, ◌≡◌, ◌⊎◌, None}
 use Rattle.hamming.specs.Code.{syndrome, decode_word}
 use Rattle.hamming.specs.Columns.{short_columns, long_columns}
 use Rattle.hamming.specs.Correction.{GoodColumns, Corrects}
@@ -21,4 +20,4 @@ LongFrames = Corrects 7 long_columns
 
 -- "Traps": not every odd syndrome is one flip, "26, 28 and 31 belong to no bit of a short frame"
 abbrev pub OddButNoBit : Type 0
-OddButNoBit = (d check s : ℕ) → (s ≡ 26) ⊎ ((s ≡ 28) ⊎ (s ≡ 31)) → syndrome short_columns d check ≡ s → decode_word short_columns d check ≡ Uncorrectable
+OddButNoBit = (d check s : ℕ) → (s ≡ 26) ⊎ ((s ≡ 28) ⊎ (s ≡ 31)) → syndrome short_columns d check ≡ s → decode_word short_columns d check ≡ None

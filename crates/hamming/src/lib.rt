@@ -10,31 +10,18 @@ ghost use Rattle.hamming.specs.Columns.{column_table};
 ghost use Rattle.hamming.specs.Code as code;
 ghost use Rattle.hamming.specs.Code.{in_use, check_number, first_equal, by_syndrome};
 
-// What the search for a column yields: the bit whose column it is, or none.
-#[derive(Clone, Copy)]
-pub enum Found {
-    At(usize),
-    Nothing,
-}
-
-// Which bit of a received word the decoder finds wrong.
-#[derive(Clone, Copy)]
+// A bit of a received word that the decoder finds wrong.
+#[derive(Clone, Copy, Debug, PartialEq, Eq)]
 pub enum WrongBit {
-    None,
     Check(usize),
     Data(usize),
 }
 
-// What the decoder of a word answers: the data, the corrected flag (set for a wrong check bit too)
-// and the wrong bit; or that the word can't be corrected.
-#[derive(Clone, Copy)]
-pub enum Decoded {
-    Word {
-        data: u32,
-        corrected: bool,
-        wrong: WrongBit,
-    },
-    Uncorrectable,
+// What the decoder of a word answers: the data, and the bit that it found wrong, if any.
+#[derive(Clone, Copy, Debug, PartialEq, Eq)]
+pub struct Word {
+    pub data: u32,
+    pub wrong: Option<WrongBit>,
 }
 
 // The columns of data bits 0 to 31; a short frame uses the first eight.
@@ -44,10 +31,10 @@ const COLUMNS: [u8; 32] = [
 ];
 
 // The table, for callers to lend: the eight of a short frame are `&table[..8]`.
-pub fn column_table() -> [u8; 32]
-    ensures { result ≡ column_table }
+pub fn column_table() -> &'static [u8; 32]
+    ensures { result.now ≡ column_table }
 {
-    COLUMNS
+    &COLUMNS
 }
 
 // The data have 32 bits, so columns beyond are not in use.
@@ -55,57 +42,57 @@ fn in_use(columns: &[u8]) -> &[u8]
     ensures { result.now ≡ in_use columns.now }
 {
     if columns.len() <= 32 {
-        return columns;
+        columns
+    } else {
+        &columns[..32]
     }
-    &columns[..32]
 }
 
 // What a data bit adds to the check number. The column is read in any case, so that the loop below has
 // no branch.
+#[tactic(auto, using(laws::proofs::Rules::picks))]
 fn column_if(bit: u32, column: u8) -> u8
     ensures { result ≡ cond (eqb bit 1) column 0 }
 {
-    if bit == 1 {
-        return column;
-    }
-    0
+    if bit == 1 { column } else { 0 }
 }
 
 // The exclusive-or of the columns of the data bits that are 1.
+#[tactic(auto, using(crate::proofs::Loops::check_turn, crate::proofs::Loops::check_end))]
 pub fn check_number(columns: &[u8], data: u32) -> u8
     ensures { result ≡ check_number (in_use columns.now) «data» }
 {
-    let used = in_use(columns);
     let mut check = 0u8;
     let mut rest = data;
-    let mut bit = 0;
-    while bit < used.len() {
-        check = check ^ column_if(rest % 2, used[bit]);
-        rest = rest / 2;
-        bit += 1;
+    for &column in in_use(columns) {
+        check ^= column_if(rest % 2, column);
+        rest /= 2;
     }
     check
 }
 
 // The received check number against that of the received data.
+#[tactic(auto, unfolding(crate::specs::Code::syndrome))]
 pub fn syndrome(columns: &[u8], data: u32, check: u8) -> u8
     ensures { result ≡ code.syndrome (in_use columns.now) «data» check }
 {
     check ^ check_number(columns, data)
 }
 
-// The bit of the first column in use that equals the syndrome, or none.
-pub fn find_column(columns: &[u8], syndrome: u8) -> Found
+// The bit of the first column in use that equals the syndrome, or none. The customer's rule: a search
+// loop that yields the position by `break`.
+#[tactic(auto, using(crate::proofs::Loops::find_here, crate::proofs::Loops::find_on, crate::proofs::Loops::find_end))]
+pub fn find_column(columns: &[u8], syndrome: u8) -> Option<usize>
     ensures { result ≡ first_equal (in_use columns.now) syndrome }
 {
     let used = in_use(columns);
     let mut at = 0;
     loop {
         if used.len() <= at {
-            break Found::Nothing;
+            break None;
         }
         if used[at] == syndrome {
-            break Found::At(at);
+            break Some(at);
         }
         at += 1;
     }
@@ -119,32 +106,25 @@ fn flip_bit(data: u32, at: usize) -> u32
     data ^ (1u32 << at)
 }
 
-// The decoder of a word: what the syndrome says of the received data, in document 01's order.
+// The decoder of a word: what the syndrome says of the received data, in document 01's order; none
+// where the word can't be corrected.
 #[tactic(auto, using(laws::proofs::Rules::picks, laws::proofs::Powers::one_bit_trailing), unfolding(crate::specs::Code::by_syndrome))]
-pub fn by_syndrome(columns: &[u8], data: u32, syndrome: u8) -> Decoded
+pub fn by_syndrome(columns: &[u8], data: u32, syndrome: u8) -> Option<Word>
     ensures { result ≡ by_syndrome (in_use columns.now) «data» syndrome }
 {
     if syndrome == 0 {
-        return Decoded::Word {
-            data,
-            corrected: false,
-            wrong: WrongBit::None,
-        };
+        return Some(Word { data, wrong: None });
     }
-    if u8::count_ones(syndrome) == 1 {
-        let bit = u8::trailing_zeros(syndrome) as usize;
-        return Decoded::Word {
+    if syndrome.count_ones() == 1 {
+        let bit = syndrome.trailing_zeros() as usize;
+        return Some(Word {
             data,
-            corrected: true,
-            wrong: WrongBit::Check(bit),
-        };
+            wrong: Some(WrongBit::Check(bit)),
+        });
     }
-    let Found::At(at) = find_column(columns, syndrome) else {
-        return Decoded::Uncorrectable;
-    };
-    Decoded::Word {
+    let at = find_column(columns, syndrome)?;
+    Some(Word {
         data: flip_bit(data, at),
-        corrected: true,
-        wrong: WrongBit::Data(at),
-    }
+        wrong: Some(WrongBit::Data(at)),
+    })
 }

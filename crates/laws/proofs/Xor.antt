@@ -1,9 +1,10 @@
 -- Laws of the exclusive-or that the library leaves out. Each goes by the lowest bit and the rest. Assumes nothing.
 use mathlib.Core.Path.{◌≡◌, refl, sym, ap, ap₂, ◌∙◌}
 use Prim.Native.Nat.{ℕ, zero, suc, ◌+◌, ◌*◌, ◌/◌, ◌%◌, ◌^◌, ◌<◌}
-use native.Mathlib.Nat.{add-zero, zero-add, add_assoc, zero-mul, mul_comm}
+use native.Mathlib.Nat.{add-zero, zero-add, zero-mul, mul_comm}
 use native.Mathlib.Omega.{arith}
 use lib.Arith.{bin_ind}
+use lib.Bits as library
 use lib.Bits.{bit_xor, differ, xor_step, xor_shr, xor_comm, xor_self, xor_zero_r, xor_block}
 use lib.Pow.{pow_pos, pow-lt, pow-add}
 use lib.Count.{ones, ones_step}
@@ -28,27 +29,13 @@ xor_low a b =
     let s : bit_xor a b ≡ bit_xor (a / 2) (b / 2) * 2 + differ (a % 2) (b % 2) = xor_step a b in
     omega arith
 
-halves_eq : (a b : ℕ) → a / 2 ≡ b / 2 → a % 2 ≡ b % 2 → a ≡ b
-halves_eq a b h k = omega arith
-
-parity_left : (x y z : ℕ) → x % 2 ≡ y % 2 → (x + z) % 2 ≡ (y + z) % 2
-parity_left x y z h = omega arith
-
 parity_right : (x y z : ℕ) → x % 2 ≡ y % 2 → (z + x) % 2 ≡ (z + y) % 2
 parity_right x y z h = omega arith
 
 -- ---- associative, and each number its own inverse
 
 pub xor_assoc : (a b c : ℕ) → bit_xor (bit_xor a b) c ≡ bit_xor a (bit_xor b c)
-xor_assoc = bin_ind (λ (a : ℕ). (b c : ℕ) → bit_xor (bit_xor a b) c ≡ bit_xor a (bit_xor b c)) (λ b c. refl) step
-  where
-    step : (a : ℕ) → ((b c : ℕ) → bit_xor (bit_xor (a / 2) b) c ≡ bit_xor (a / 2) (bit_xor b c)) → (b c : ℕ) → bit_xor (bit_xor a b) c ≡ bit_xor a (bit_xor b c)
-    step a ih b c =
-        halves_eq (bit_xor (bit_xor a b) c) (bit_xor a (bit_xor b c))
-        (xor_half (bit_xor a b) c ∙ ap (λ (x : ℕ). bit_xor x (c / 2)) (xor_half a b) ∙ ih (b / 2) (c / 2)
-        ∙ sym (xor_half a (bit_xor b c) ∙ ap (λ (x : ℕ). bit_xor (a / 2) x) (xor_half b c)))
-        (xor_low (bit_xor a b) c ∙ parity_left (bit_xor a b) (a + b) c (xor_low a b) ∙ ap (λ (x : ℕ). x % 2) (add_assoc a b c)
-        ∙ sym (xor_low a (bit_xor b c) ∙ parity_right (bit_xor b c) (b + c) a (xor_low b c)))
+xor_assoc = library.xor_assoc
 
 pub xor_back : (a b : ℕ) → bit_xor (bit_xor a b) b ≡ a
 xor_back a b = xor_assoc a b b ∙ ap (λ (x : ℕ). bit_xor a x) (xor_self b) ∙ xor_zero_r a

@@ -3,12 +3,20 @@ use mathlib.Core.Path.{◌≡◌, ap, ◌∙◌}
 use mathlib.Core.List.{List}
 use Prim.Native.Nat.{ℕ}
 use native.Mathlib.Omega.{arith}
-use lib.ListN.{take, drop, length-take}
-use lib.Seq.{take_all, take-take}
+use lib.ListN.{length, take, drop, length-take}
+use lib.Seq.{take_all, take-take, length-take-le}
 use lib.Dec.{lit≤}
+use Rattle.std.proofs.Common.{length-drop}
 use Rattle.hamming.specs.Code.{in_use}
 use Rattle.frame.specs.Columns.{columns_for}
 use Rattle.lent_columns.specs.Check.{lent_short, lent_long, lent_columns}
+
+-- how many columns each group has
+pub short_length : (table : List ℕ) → length table ≡ 40 → length (lent_short table) ≡ 8
+short_length table h = length-take-le 8 table (omega arith)
+
+pub long_length : (table : List ℕ) → length table ≡ 40 → length (lent_long table) ≡ 32
+long_length table h = length-take-le 32 (drop 8 table) (omega (arith, length-drop 8 table))
 
 -- all columns of a group are in use
 pub short_in_use : (table : List ℕ) → in_use (lent_short table) ≡ lent_short table

@@ -1,8 +1,11 @@
 -- Document 02, Q-11: the columns that a caller lends, and their check. `ColumnsAnswer` is a struct of src/lib.rt.
-use Rattle.std.specs.Prelude.{ℕ, suc, ◌+◌, ◌%◌, ◌^◌, Bool, not, cond, List, [], ◌∷◌, eqb, ltb, leb, length, take, drop}
+use Rattle.std.specs.Prelude.{ℕ, suc, ◌+◌, ◌%◌, ◌^◌, Bool, not, cond, List, [], ◌∷◌, eqb, ltb, leb, length, take, drop, Result}
 use Rattle.std.specs.Int.Count.{ones}
 use Rattle.laws.specs.Tests.{every}
 use Rattle.laws.specs.OneOf.{one_of}
+use Rattle.refusals.specs.declared.Refusal.{Refusal}
+use Rattle.refusals.specs.Refusals.{number_of, index_of}
+use Rattle.frame.specs.declared.Columns.{Columns}
 use Rattle.frame.specs.declared.Kind.{Kind}
 use Rattle.frame.specs.declared.Kind.TheVariants.{Short, Long}
 use Rattle.frame.specs.Numbers.{check_bits}
@@ -51,3 +54,7 @@ check_columns table =
     (cond (ltb long 32) (columns_answer 28 (8 + long))
     (columns_answer 0 0)))
     (columns_answer 27 0)
+
+-- what C is handed by the check
+abbrev pub columns_outcome : Result Columns Refusal → ColumnsAnswer
+columns_outcome given = columns_answer (number_of given) (index_of given)

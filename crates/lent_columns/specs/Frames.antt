@@ -1,15 +1,18 @@
 -- Document 02, Q-11: frames encoded and decoded with lent columns. The structs are those of src/lib.rt: the answer without columns, and the index.
 -- Proved in proofs/Frames.antt.
-use Rattle.std.specs.Prelude.{ℕ, ◌≡◌, ◌≢◌, cond, List, ◌++◌, eqb}
+use Rattle.std.specs.Prelude.{ℕ, ◌≡◌, ◌≢◌, cond, List, ◌++◌, eqb, Result}
 use Rattle.hamming.specs.Columns.{short_columns, long_columns}
 use Rattle.hamming.specs.Correction.{Corrects}
+use Rattle.refusals.specs.declared.Refusal.{Refusal}
+use Rattle.refusals.specs.Refusals.{index_of}
+use Rattle.frame.specs.declared.Judged.{Judged}
 use Rattle.frame.specs.declared.Kind.{Kind}
 use Rattle.frame.specs.declared.Kind.TheVariants.{Short, Long}
 use Rattle.frame.specs.declared.Encoded.{Encoded}
 use Rattle.frame.specs.declared.Answer.{Answer}
 use Rattle.frame.specs.Columns.{columns_of}
-use Rattle.frame.specs.Encode.{encode_short, encode_long}
-use Rattle.frame.specs.Decode.{bare_answer, decode_frame}
+use Rattle.frame.specs.Encode.{encode_short, encode_long, encoder_answer}
+use Rattle.frame.specs.Decode.{bare_answer, decode_frame, decoder_answer}
 use Rattle.frame.specs.declared.Fields.{Fields}
 use Rattle.frame.specs.Numbers.{check_bits}
 use Rattle.frame.specs.Frames.{InRange, fields_answer, FrameFacts}
@@ -69,6 +72,13 @@ pub record FramesRefused (refusal index : ℕ) (table : List ℕ) : Type 0 where
   pub encode_short_lem : (byte : ℕ) → encode_short_with_columns table byte ≡ encoded_with index (refused_encoded refusal)
   pub encode_long_lem : (address e sub byte : ℕ) → encode_long_with_columns table address e sub byte ≡ encoded_with index (refused_encoded refusal)
   pub decode : (kind : Kind) (number : ℕ) → decode_with_columns table kind number ≡ decoded_with index (refused_decoded refusal)
+
+-- what C is handed: a refusal's index beside the answer, 0 where it tells none
+abbrev pub encoded_outcome : Result ℕ Refusal → EncodedWithIndex
+encoded_outcome given = encoded_with (index_of given) (encoder_answer given)
+
+abbrev pub decoded_outcome : Kind → Result Judged Refusal → DecodedWithIndex
+decoded_outcome kind given = decoded_with (index_of given) (decoder_answer kind given)
 
 -- ---- the statements
 

@@ -1,5 +1,4 @@
 pub mod Check
-pub mod NumberSets
 pub mod Laws
 pub mod Frames
 pub mod Examples

@@ -4,18 +4,21 @@
 // There is no state. Columns are only read, and are lent.
 #![tactic(auto)]
 
-ghost use Rattle.std.specs.Prelude.{◌≡◌, [], ◌/◌, ◌%◌, ◌^◌, ◌<◌, eqb};
+ghost use Rattle.std.specs.Prelude.{◌≡◌, [], ◌^◌, ◌<◌, IfOk, IfSome, length, unwrap_or};
 ghost use Rattle.frame.specs.Numbers.{check_bits};
-ghost use Rattle.lent_columns.specs.Check.{first_bad, check_columns};
+ghost use Rattle.frame.specs.Columns.{tables};
 ghost use Rattle.frame.specs.declared.Kind.TheVariants.{Short, Long};
-ghost use Rattle.lent_columns.specs.Frames.{refused_encoded, refused_decoded, encode_short_with_columns, encode_long_with_columns, decode_with_columns};
-ghost use Rattle.lent_columns.specs.NumberSets.{is_in, good_numbers, without as without_number};
+ghost use Rattle.lent_columns.specs.Check.{lent_columns, column_tests, first_bad, columns_outcome, check_columns};
+ghost use Rattle.lent_columns.specs.Frames.{encoded_outcome, decoded_outcome, encode_short_with_columns, encode_long_with_columns, decode_with_columns};
+ghost use Rattle.laws.specs.Tests.{every};
 
 use frame::{
-    Answer, Encoded, Kind, bare_answer, decode_finished, encode_word, is_frame, long_word,
+    Answer, Columns, Encoded, Fields, Judged, Kind, decode, decoder_answer, encode_fields,
+    encode_word,
 };
+use refusals::{Refusal, index_of, number_of};
 
-// What the check of columns answers: the number of refusal, and the index of the first bad column.
+// What C is handed by the check of columns: the number of refusal, and the index of the first bad column.
 #[repr(C)]
 #[derive(Clone, Copy)]
 pub struct ColumnsAnswer {
@@ -23,7 +26,7 @@ pub struct ColumnsAnswer {
     pub index: u8,
 }
 
-// What an encoder answers that is lent columns.
+// And by an encoder that is lent columns.
 #[repr(C)]
 #[derive(Clone, Copy)]
 pub struct EncodedWithIndex {
@@ -31,7 +34,7 @@ pub struct EncodedWithIndex {
     pub index: u8,
 }
 
-// What a decoder answers that is lent columns.
+// And by a decoder that is lent columns.
 #[repr(C)]
 #[derive(Clone, Copy)]
 pub struct DecodedWithIndex {
@@ -39,216 +42,139 @@ pub struct DecodedWithIndex {
     pub index: u8,
 }
 
-// A set of numbers below 128, a bit for each: those from 64 on are bits of `high`.
-#[derive(Clone, Copy)]
-pub struct NumberSet {
-    pub low: u64,
-    pub high: u64,
-}
-
 // How many columns are lent: eight for short frames, then 32 for long ones.
 pub const TABLE_LENGTH: usize = 40;
 
-// The numbers below 32 that have three ones or five: what a column of a short frame may be.
-const GOOD_BELOW_32: u64 = 0x9668_6880;
-
-// The numbers below 128 that have three, five or seven ones: what a column of a long frame may be.
-const GOOD_BELOW_64: u64 = 0x6996_9668_9668_6880;
-
-const GOOD_FROM_64: u64 = 0x9669_6996_6996_9668;
-
-// The numbers that are good columns for a kind of frame, each by itself.
-fn good_numbers(kind: Kind) -> NumberSet
-    ensures { result ≡ good_numbers kind }
+// The numbers that its check bits hold are below this.
+// A number for each kind, as in frame.
+fn limit(kind: Kind) -> u8
+    ensures { result ≡ 2 ^ check_bits kind }
 {
     match kind {
-        Kind::Short => NumberSet {
-            low: GOOD_BELOW_32,
-            high: 0,
-        },
-        Kind::Long => NumberSet {
-            low: GOOD_BELOW_64,
-            high: GOOD_FROM_64,
-        },
+        Kind::Short => 0x20,
+        Kind::Long => 0x80,
     }
 }
 
-// Whether that bit of a number is 1.
-fn bit_is_1(number: u64, bit: u8) -> bool
-    requires { bit < 64 }
-    ensures { result ≡ eqb (number / 2 ^ bit % 2) 1 }
+// Whether a column is good by itself: "an odd count of ones, three or more, inside 5 or 7 bits".
+#[tactic(auto, using(laws::proofs::Rules::gates), unfolding(laws::specs::Tests::every, laws::specs::OneOf::one_of))]
+fn is_good(kind: Kind, column: u8) -> bool
+    ensures { result ≡ every (column_tests (check_bits kind) [] column) }
 {
-    (number >> bit) % 2 == 1
+    let ones = column.count_ones();
+    ones % 2 == 1 && ones >= 3 && column < limit(kind)
 }
 
-fn power(n: u8) -> u64
-    requires { n < 64 }
-    ensures { result ≡ 2 ^ n }
+// The index of the first bad column of those lent for a kind of frame. The numbers that earlier columns
+// took are kept, so that those columns are not gone through for each.
+fn first_bad(kind: Kind, columns: &[u8]) -> Option<usize>
+    ensures index { unwrap_or result (length columns.now) ≡ first_bad (check_bits kind) [] columns.now }
+    ensures within { IfSome result (λ at. at < length columns.now) }
 {
-    1u64 << n
-}
-
-fn is_in(set: NumberSet, n: u8) -> bool
-    ensures { result ≡ is_in set n }
-{
-    if n < 64 {
-        return bit_is_1(set.low, n);
-    }
-    if n < 128 {
-        return bit_is_1(set.high, n - 64);
-    }
-    false
-}
-
-// The set without a number that is in it.
-fn without(set: NumberSet, n: u8) -> NumberSet
-    ensures { result ≡ without_number set n }
-{
-    if n < 64 {
-        return NumberSet {
-            low: set.low ^ power(n),
-            high: set.high,
-        };
-    }
-    if n < 128 {
-        return NumberSet {
-            low: set.low,
-            high: set.high ^ power(n - 64),
-        };
-    }
-    set
-}
-
-// The index of the first bad column of those lent for a kind of frame; how many they are if there is
-// none. A column is bad if it is not among the good numbers that none before it has taken: so the
-// earlier columns are not gone through for each.
-fn first_bad(kind: Kind, columns: &[u8]) -> usize
-    ensures { result ≡ first_bad (check_bits kind) [] columns.now }
-{
-    let mut free = good_numbers(kind);
-    let mut at = 0;
-    while at < columns.len() {
-        let column = columns[at];
-        if !is_in(free, column) {
-            return at;
+    let mut taken = [false; 128];
+    for (at, &column) in columns.iter().enumerate() {
+        if !is_good(kind, column) {
+            return Some(at);
         }
-        free = without(free, column);
-        at += 1;
+        let number = usize::from(column);
+        if taken[number] {
+            return Some(at);
+        }
+        taken[number] = true;
     }
-    at
+    None
 }
 
-fn columns_answer(refusal: u8, index: u8) -> ColumnsAnswer
-    ensures { result ≡ record { refusal = refusal; index = index } }
-{
-    ColumnsAnswer { refusal, index }
-}
-
-// The check of the columns that a caller lends.
-pub fn check_columns(columns: &[u8]) -> ColumnsAnswer
-    ensures { result ≡ check_columns columns.now }
+// The check of the columns that a caller lends: they are handed on by kinds of frames.
+#[tactic(auto, using(laws::proofs::Rules::picks), unfolding(crate::specs::Check::check_columns, refusals::specs::Refusals::number, refusals::specs::Refusals::index))]
+pub fn check_columns(columns: &[u8]) -> Result<Columns<'_>, Refusal>
+    ensures answer { columns_outcome result ≡ check_columns columns.now }
+    ensures lent { IfOk result (λ lent. tables lent ≡ lent_columns columns.now) }
 {
     if columns.len() != TABLE_LENGTH {
-        return columns_answer(27, 0);
+        return Err(Refusal::ColumnCount);
     }
-    let short = first_bad(Kind::Short, &columns[..8]);
-    if short < 8 {
-        return columns_answer(28, short as u8);
+    let short = &columns[..8];
+    let long = &columns[8..40];
+    if let Some(at) = first_bad(Kind::Short, short) {
+        return Err(Refusal::BadColumn { index: at as u8 });
     }
-    let long = first_bad(Kind::Long, &columns[8..40]);
-    if long < 32 {
-        return columns_answer(28, 8 + long as u8);
+    if let Some(at) = first_bad(Kind::Long, long) {
+        let index = 8 + at as u8;
+        return Err(Refusal::BadColumn { index });
     }
-    columns_answer(0, 0)
+    Ok(Columns { short, long })
 }
 
-fn refuse_encoded(refusal: u8, index: u8) -> EncodedWithIndex
-    ensures { result ≡ record { answer = refused_encoded refusal; index = index } }
-{
-    let answer = Encoded { refusal, number: 0 };
-    EncodedWithIndex { answer, index }
-}
+impl<'a> From<Result<Columns<'a>, Refusal>> for ColumnsAnswer {
+    ghost from_gives = { λ given answer. answer ≡ columns_outcome given };
 
-fn accept_encoded(number: u64, index: u8) -> EncodedWithIndex
-    ensures { result ≡ record { answer = record { refusal = 0; number = number }; index = index } }
-{
-    let answer = Encoded { refusal: 0, number };
-    EncodedWithIndex { answer, index }
+    fn from(given: Result<Columns<'a>, Refusal>) -> ColumnsAnswer {
+        ColumnsAnswer {
+            refusal: number_of(given),
+            index: index_of(given),
+        }
+    }
 }
 
 // The broadcast of a byte.
-pub fn encode_short_with_columns(columns: &[u8], data: u8) -> EncodedWithIndex
-    ensures { result ≡ encode_short_with_columns columns.now «data» }
+#[tactic(auto, using(crate::proofs::Outcome::short_refused))]
+pub fn encode_short_with_columns(columns: &[u8], data: u8) -> Result<u64, Refusal>
+    ensures { encoded_outcome result ≡ encode_short_with_columns columns.now «data» }
 {
-    let checked = check_columns(columns);
-    if checked.refusal != 0 {
-        return refuse_encoded(checked.refusal, checked.index);
-    }
-    let number = encode_word(&columns[..8], Kind::Short, data as u32);
-    accept_encoded(number, checked.index)
+    let lent = check_columns(columns)?;
+    Ok(encode_word(lent.short, Kind::Short, u32::from(data)))
 }
 
 // The individually addressed frame of these fields.
-#[tactic(auto, using(laws::proofs::Rules::picks, crate::proofs::Laws::whole_table, crate::proofs::Parts::long_in_use), unfolding(crate::specs::Frames::encode_long_with_columns, frame::specs::Encode::encode_long))]
-pub fn encode_long_with_columns(
-    columns: &[u8],
-    address: u16,
-    e: u8,
-    sub: u8,
-    data: u8,
-) -> EncodedWithIndex
-    ensures { result ≡ encode_long_with_columns columns.now address e sub «data» }
+#[tactic(auto, using(crate::proofs::Outcome::long_refused))]
+pub fn encode_long_with_columns(columns: &[u8], fields: Fields) -> Result<u64, Refusal>
+    ensures { encoded_outcome result ≡ encode_long_with_columns columns.now fields.address fields.e fields.sub fields.«data» }
 {
-    let checked = check_columns(columns);
-    if checked.refusal != 0 {
-        return refuse_encoded(checked.refusal, checked.index);
-    }
-    if address > 16383 {
-        return refuse_encoded(13, checked.index);
-    }
-    if e > 1 {
-        return refuse_encoded(13, checked.index);
-    }
-    let word = long_word(address, e, sub, data);
-    let number = encode_word(&columns[8..40], Kind::Long, word);
-    accept_encoded(number, checked.index)
+    let lent = check_columns(columns)?;
+    encode_fields(lent.long, fields)
 }
 
-fn refuse_decoded(refusal: u8, index: u8) -> DecodedWithIndex
-    ensures { result ≡ record { answer = refused_decoded refusal; index = index } }
-{
-    let answer = bare_answer(refusal, 0, 0);
-    DecodedWithIndex { answer, index }
+impl From<Result<u64, Refusal>> for EncodedWithIndex {
+    ghost from_gives = { λ given answer. answer ≡ encoded_outcome given };
+
+    fn from(outcome: Result<u64, Refusal>) -> EncodedWithIndex {
+        EncodedWithIndex {
+            answer: Encoded::from(outcome),
+            index: index_of(outcome),
+        }
+    }
 }
 
 // What a number says as a frame of a kind.
-fn decode_with_columns(columns: &[u8], kind: Kind, number: u64) -> DecodedWithIndex
-    ensures { result ≡ decode_with_columns columns.now kind number }
+#[tactic(auto, using(crate::proofs::Outcome::decode_refused))]
+fn decode_with_columns(columns: &[u8], kind: Kind, number: u64) -> Result<Judged, Refusal>
+    ensures { decoded_outcome kind result ≡ decode_with_columns columns.now kind number }
 {
-    let checked = check_columns(columns);
-    if checked.refusal != 0 {
-        return refuse_decoded(checked.refusal, checked.index);
-    }
-    if !is_frame(kind, number) {
-        return refuse_decoded(12, checked.index);
-    }
-    let answer = decode_finished(&columns[..8], &columns[8..40], kind, number);
-    DecodedWithIndex {
-        answer,
-        index: checked.index,
-    }
+    let lent = check_columns(columns)?;
+    decode(lent, kind, number)
 }
 
-// What a number says as a short frame.
-pub fn decode_short_with_columns(columns: &[u8], number: u64) -> DecodedWithIndex
-    ensures { result ≡ decode_with_columns columns.now Short number }
+// What a number says as a short frame. C has a function for each kind.
+pub fn decode_short_with_columns(columns: &[u8], number: u64) -> Result<Judged, Refusal>
+    ensures { decoded_outcome Short result ≡ decode_with_columns columns.now Short number }
 {
     decode_with_columns(columns, Kind::Short, number)
 }
 
 // What a number says as a long frame.
-pub fn decode_long_with_columns(columns: &[u8], number: u64) -> DecodedWithIndex
-    ensures { result ≡ decode_with_columns columns.now Long number }
+pub fn decode_long_with_columns(columns: &[u8], number: u64) -> Result<Judged, Refusal>
+    ensures { decoded_outcome Long result ≡ decode_with_columns columns.now Long number }
 {
     decode_with_columns(columns, Kind::Long, number)
+}
+
+// What C is handed in place of a decoder's answer.
+pub fn decoded_with_index(kind: Kind, decoded: Result<Judged, Refusal>) -> DecodedWithIndex
+    ensures { result ≡ decoded_outcome kind decoded }
+{
+    DecodedWithIndex {
+        answer: decoder_answer(kind, decoded),
+        index: index_of(decoded),
+    }
 }

@@ -1,8 +1,9 @@
 -- How long a line's text can be. Assumes nothing.
-use Rattle.std.proofs.Common.{ℕ, ◌+◌, ◌<◌, ◌≤◌, eqb, ltb, List, [], ◌∷◌, ◌++◌, length, take, ap, arith, lit<, length-append, ltb-true}
+use Rattle.std.proofs.Common.{ℕ, ◌+◌, ◌<◌, ◌≤◌, eqb, ltb, List, [], ◌∷◌, ◌++◌, length, ap, arith, lit<, length-append, ltb-true, Result, Ok, Err}
 use Rattle.laws.proofs.Rules.{picked, picked_by}
 use Rattle.frame.specs.declared.Kind.{Kind}
 use Rattle.frame.specs.declared.Kind.TheVariants.{Short, Long}
+use Rattle.hamming.specs.Correction.{flag_of}
 use Rattle.frame.specs.declared.Judged.{Judged}
 use Rattle.frame.specs.declared.Judged.TheVariants.{StopZero, EvenSyndrome, OddSyndrome, FixedZero, Good}
 use Rattle.frame.specs.Numbers.{frame_bits, is_frame}
@@ -25,12 +26,12 @@ use Rattle.channel_b.specs.TakeBit.{take_bit}
 use Rattle.idle_clock.specs.IdleClock.{idle_clock}
 use Rattle.receiver.specs.Clock.{apply_frame, step_answer, refused_clock, clock_answer}
 use Rattle.whole_frame.specs.WholeFrame.{clocks_answer, no_clock, receive_answer}
-use Rattle.stored_line.specs.declared.StoredLine.{StoredLine}
-use Rattle.stored_line.specs.declared.StoredLine.TheVariants.{Frame, Refused}
+use Rattle.refusals.specs.declared.Refusal.{Refusal}
+use Rattle.refusals.specs.declared.Refusal.TheVariants.{Bit, State, Id, I2cId, Register, ReadOnly, Config, Setting, DelayByte, LineLength, Character, Frame, Field, LineBuffer, BlockLength, RecordBuffer, NoSetting, ColumnCount, BadColumn}
+use Rattle.refusals.specs.Refusals.{number}
+use Rattle.stored_line.specs.declared.StoredFrame.{StoredFrame}
 use Rattle.stored_line.proofs.Digits.{length_digits}
-use Rattle.stored_line.proofs.Refusals.{RefusalSmall, refusal_small}
-use Rattle.line_report.specs.declared.LinePart.{LinePart}
-use Rattle.line_report.specs.Text.{decimal, word_digits, prints_dash, word_text, prints_place, place_text, verdict_text, refusal_text, answer_text, line_text}
+use Rattle.line_report.specs.Text.{decimal, kind_digits, word_digits, prints_dash, word_text, prints_place, place_text, verdict_text, refusal_text, answer_text, line_text}
 use Rattle.line_report.specs.Output.{feed_line, next_line, line_prints}
 use Rattle.line_report.specs.declared.Report.{Report}
 use Rattle.line_report.specs.Report.{read_part, digits_of, longest_answer, longest_line, last_prints}
@@ -52,7 +53,7 @@ flag_small kind StopZero = lit< tt
 flag_small kind EvenSyndrome = lit< tt
 flag_small kind OddSyndrome = lit< tt
 flag_small kind (FixedZero word) = lit< tt
-flag_small kind (Good word flag wrong) = picked (λ (n : ℕ). n < 10) flag (lit< tt) (lit< tt)
+flag_small kind (Good word wrong) = picked (λ (n : ℕ). n < 10) (flag_of wrong) (lit< tt) (lit< tt)
 
 place_small : (kind : Kind) (judged : Judged) → (answer_to kind judged).place ≤ largest_place
 place_small Short judged = omega (arith, place_most Short judged)
@@ -89,17 +90,35 @@ clocks_small columns before [] s = s
 clocks_small columns before (bit ∷ bits) s =
     clocks_small columns (clock_answer columns before.receiver 0 bit) bits (clock_small columns before.receiver 0 bit)
 
-line_small : (columns : Kind → List ℕ) (r : Receiver) (line : StoredLine) → RefusalSmall line → Small (feed_line columns r line)
-unfolding receive_answer
-line_small columns r (Frame kind number) s =
-    picked Small (well_formed r)
-    (picked Small (is_frame kind number) (clocks_small columns (no_clock r) (bits_of (frame_bits kind) number) (refused_small 0 r (lit< tt))) (refused_small 12 r (lit< tt)))
-    (refused_small 2 r (lit< tt))
-line_small columns r (Refused refusal) s = refused_small refusal r (omega arith)
+pub number_small : (refusal : Refusal) → number refusal < 1000
+unfolding number
+number_small Bit = lit< tt
+number_small State = lit< tt
+number_small Id = lit< tt
+number_small I2cId = lit< tt
+number_small Register = lit< tt
+number_small ReadOnly = lit< tt
+number_small Config = lit< tt
+number_small Setting = lit< tt
+number_small DelayByte = lit< tt
+number_small LineLength = lit< tt
+number_small Character = lit< tt
+number_small Frame = lit< tt
+number_small Field = lit< tt
+number_small LineBuffer = lit< tt
+number_small BlockLength = lit< tt
+number_small RecordBuffer = lit< tt
+number_small NoSetting = lit< tt
+number_small ColumnCount = lit< tt
+number_small (BadColumn index) = lit< tt
 
-pub part_small : (part : LinePart) → RefusalSmall (read_part part)
-unfolding read_part
-part_small part = picked RefusalSmall (ltb 11 part.count) (lit< tt) (refusal_small (take part.count part.characters))
+line_small : (columns : Kind → List ℕ) (r : Receiver) (line : Result StoredFrame Refusal) → Small (feed_line columns r line)
+unfolding receive_answer
+line_small columns r (Ok frame) =
+    picked Small (well_formed r)
+    (picked Small (is_frame frame.kind frame.number) (clocks_small columns (no_clock r) (bits_of (frame_bits frame.kind) frame.number) (refused_small 0 r (lit< tt))) (refused_small 12 r (lit< tt)))
+    (refused_small 2 r (lit< tt))
+line_small columns r (Err refusal) = refused_small (number refusal) r (number_small refusal)
 
 -- ---- the text
 
@@ -147,16 +166,19 @@ answer_length digits answer h s =
     picked (λ (text : List ℕ). length text ≤ longest_answer) (eqb answer.refusal 0) (verdict_length digits answer.outputs h s.outputs_small)
     (omega (arith, refusal_length answer.refusal s.refusal_below))
 
-digits_small : (line : StoredLine) → word_digits line ≤ 8
-digits_small (Frame Short number) = omega arith
-digits_small (Frame Long number) = omega arith
-digits_small (Refused refusal) = omega arith
+kind_small : (kind : Kind) → kind_digits kind ≤ 8
+kind_small Short = omega arith
+kind_small Long = omega arith
 
-pub line_length_lem : (columns : Kind → List ℕ) (r : Receiver) (lines : ℕ) (line : StoredLine) → RefusalSmall line → length (line_prints columns r lines line) ≤ longest_line
+digits_small : (line : Result StoredFrame Refusal) → word_digits line ≤ 8
+digits_small (Ok frame) = kind_small frame.kind
+digits_small (Err refusal) = omega arith
+
+pub line_length_lem : (columns : Kind → List ℕ) (r : Receiver) (lines : ℕ) (line : Result StoredFrame Refusal) → length (line_prints columns r lines line) ≤ longest_line
 unfolding line_text
-line_length_lem columns r lines line s =
+line_length_lem columns r lines line =
     let answer = feed_line columns r line in
-    let bound = answer_length (word_digits line) answer (digits_small line) (line_small columns r line s) in
+    let bound = answer_length (word_digits line) answer (digits_small line) (line_small columns r line) in
     let behind = length-append (answer_text (word_digits line) answer) (10 ∷ []) in
     let all = length-append (decimal (next_line lines)) (32 ∷ (answer_text (word_digits line) answer ++ (10 ∷ []))) in
     omega (arith, twenty_digits (next_line lines))
@@ -167,4 +189,4 @@ pub last_length : (columns : Kind → List ℕ) (now : Report) → length (last_
 unfolding last_prints
 last_length columns now =
     picked (λ (text : List ℕ). length text ≤ longest_line) (eqb now.part.count 0) (omega arith)
-    (line_length_lem columns now.receiver now.lines (read_part now.part) (part_small now.part))
+    (line_length_lem columns now.receiver now.lines (read_part now.part))

@@ -1,10 +1,10 @@
 -- The decimal digits of a number: those of its tenth, and one more; how many there are. Assumes nothing.
-use Rattle.std.proofs.Common.{◌≡◌, ℕ, zero, suc, ◌+◌, ◌/◌, ◌%◌, ◌^◌, ◌<◌, ◌≤◌, cond, ltb, List, [], ◌∷◌, ◌++◌, length, refl, ap, pow-suc, arith, length-append, ltb-false, ltb-true, le-ltb, lt-ltb}
+use Rattle.std.proofs.Common.{◌≡◌, ℕ, zero, suc, ◌+◌, ◌/◌, ◌%◌, ◌^◌, ◌<◌, ◌≤◌, cond, ltb, List, [], ◌∷◌, ◌++◌, length, set, refl, ap, pow-suc, arith, length-append, ltb-false, ltb-true, le-ltb, lt-ltb}
 use Rattle.laws.proofs.Rules.{picked, by_test}
 use Rattle.stored_line.specs.Digits.{digit_character}
 use Rattle.line_report.specs.Text.{decimal_up_to, decimal}
 use Rattle.line_report.specs.Write.{TextAt}
-use Rattle.line_report.proofs.Write.{then_text, room_first, room_then}
+use Rattle.line_report.proofs.Write.{then_text, kept_length, room_first}
 
 digit_is : (digit : ℕ) → digit < 10 → digit_character digit ≡ 48 + digit
 unfolding digit_character
@@ -70,20 +70,23 @@ few_digits (suc k) number h below =
 pub only_room : (number at : ℕ) {room : ℕ} → number < 10 → at + length (decimal number) ≤ room → at < room
 only_room number at h r = omega (arith, ap length (one_digit number h))
 
-pub only_stored : {number at next : ℕ} {before after : List ℕ} → number < 10 → TextAt next at ((48 + number) ∷ []) before after
-    → TextAt next at (decimal number) before after
-only_stored {number} h t = rw (one_digit number h) t
+one_stored : (digit at : ℕ) (before : List ℕ) → TextAt (at + 1) at (digit ∷ []) before (set before at digit)
+one_stored digit at before = record { next_is = refl; stored = refl }
+
+pub only_stored : (number at : ℕ) (before : List ℕ) → number < 10 → TextAt (at + 1) at (decimal number) before (set before at (48 + number))
+only_stored number at before h = rw (one_digit number h) (one_stored (48 + number) at before)
 
 module _ (number at : ℕ) (h : 10 ≤ number) (below : number < 2 ^ 64) where
   pub first_room : {room : ℕ} → at + length (decimal number) ≤ room → at + length (decimal (number / 10)) ≤ room
   first_room r = room_first at (decimal (number / 10)) ((48 + number % 10) ∷ []) (rw (more_digits number h below) at r)
 
-  pub last_room : {next : ℕ} (before : List ℕ) {after : List ℕ} → at + length (decimal number) ≤ length before → TextAt next at (decimal (number / 10)) before after
+  pub last_room : {next : ℕ} {before after : List ℕ} → at + length (decimal number) ≤ length before → TextAt next at (decimal (number / 10)) before after
       → next < length after
-  last_room {next} before {after} r t =
-      let some = room_then (decimal (number / 10)) ((48 + number % 10) ∷ []) (rw (more_digits number h below) at r) t in
-      omega arith
+  last_room {next} {before} r t =
+      let all : length (decimal number) ≡ length (decimal (number / 10)) + 1 =
+      rw (more_digits number h below) (length-append (decimal (number / 10)) ((48 + number % 10) ∷ [])) in
+      omega (arith, t.next_is, kept_length t)
 
-  pub last_stored : {n₁ n₂ : ℕ} {before b₁ b₂ : List ℕ} → TextAt n₁ at (decimal (number / 10)) before b₁ → TextAt n₂ n₁ ((48 + number % 10) ∷ []) b₁ b₂
-      → TextAt n₂ at (decimal number) before b₂
-  last_stored s t = rw (more_digits number h below) (then_text (decimal (number / 10)) ((48 + number % 10) ∷ []) s t)
+  pub last_stored : {next : ℕ} {before after : List ℕ} → TextAt next at (decimal (number / 10)) before after
+      → TextAt (next + 1) at (decimal number) before (set after next (48 + number % 10))
+  last_stored s = rw (more_digits number h below) (then_text (decimal (number / 10)) ((48 + number % 10) ∷ []) s (one_stored _ _ _))

@@ -1,5 +1,5 @@
 -- How long the end can be. Assumes nothing.
-use Rattle.std.proofs.Common.{◌≡◌, ℕ, ◌+◌, ◌<◌, ◌≤◌, Bool, true, false, cond, eqb, List, [], ◌∷◌, ◌++◌, length, arith, lit<, lit≤, length-append}
+use Rattle.std.proofs.Common.{◌≡◌, ℕ, ◌+◌, ◌<◌, ◌≤◌, Bool, true, false, cond, eqb, List, [], ◌∷◌, ◌++◌, length, arith, lit<, lit≤, length-append, Result, Ok, Err}
 use Rattle.laws.specs.OneOf.{one_of}
 use Rattle.laws.proofs.Rules.{picked, by_test}
 use Rattle.frame.specs.Columns.{columns_of}
@@ -12,16 +12,16 @@ use Rattle.receiver.specs.declared.ClockAnswer.{ClockAnswer}
 use Rattle.receiver.specs.Clock.{refused_clock}
 use Rattle.whole_frame.specs.WholeFrame.{receive_answer}
 use Rattle.whole_frame.proofs.WholeFrameLaw.{receiver_whole_frames}
-use Rattle.stored_line.specs.declared.StoredLine.{StoredLine}
-use Rattle.stored_line.specs.declared.StoredLine.TheVariants.{Frame, Refused}
+use Rattle.refusals.specs.declared.Refusal.{Refusal}
+use Rattle.refusals.specs.Refusals.{number}
+use Rattle.stored_line.specs.declared.StoredFrame.{StoredFrame}
 use Rattle.stored_line.specs.Digits.{digit_character, hex_digits}
-use Rattle.stored_line.proofs.Refusals.{RefusalSmall}
 use Rattle.line_report.specs.Text.{decimal_up_to, decimal, word_digits, prints_dash, word_text, prints_place, place_text, verdict_text, answer_text, line_text, counts_text, end_text, core_end_text}
 use Rattle.line_report.specs.Output.{after_line, next_line, line_prints}
 use Rattle.line_report.specs.Report.{read_part, line_ended, longest_end, after_last, last_prints}
 use Rattle.line_report.specs.EndLength.{TypesHold, NoLongerEnd}
 use Rattle.line_report.proofs.Decimal.{few_digits, twenty_digits}
-use Rattle.line_report.proofs.Bounds.{part_small, refusal_length, line_length_lem}
+use Rattle.line_report.proofs.Bounds.{number_small, refusal_length, line_length_lem}
 use Rattle.line_report.proofs.Keep.{line_keeps}
 
 -- ---- the counts
@@ -78,10 +78,10 @@ line_of number digits answer h =
     omega (arith, twenty_digits number, h)
 
 -- a receiver that is not well formed refuses every line
-refused_line_lem : (r : Receiver) (lines : ℕ) (line : StoredLine) → well_formed r ≡ false → RefusalSmall line → length (line_prints columns_of r lines line) ≤ 27
+refused_line_lem : (r : Receiver) (lines : ℕ) (line : Result StoredFrame Refusal) → well_formed r ≡ false → length (line_prints columns_of r lines line) ≤ 27
 unfolding receive_answer
-refused_line_lem r lines (Frame kind number) w s = line_of (next_line lines) (word_digits (Frame kind number)) _ (rw w (by_2 (word_digits (Frame kind number)) r))
-refused_line_lem r lines (Refused refusal) w s = line_of (next_line lines) 0 (refused_clock refusal r) (refused_answer refusal r (omega arith))
+refused_line_lem r lines (Ok frame) w = line_of (next_line lines) (word_digits (Ok frame)) _ (rw w (by_2 (word_digits (Ok frame)) r))
+refused_line_lem r lines (Err refusal) w = line_of (next_line lines) 0 (refused_clock (number refusal) r) (refused_answer (number refusal) r (number_small refusal))
 
 -- ---- the end
 
@@ -89,7 +89,7 @@ pub no_longer_end : NoLongerEnd
 unfolding after_last last_prints
 no_longer_end now t = let fits = by_count (eqb now.part.count 0) t in omega arith
   where
-    line : StoredLine
+    line : Result StoredFrame Refusal
     line = read_part now.part
 
     text : List ℕ
@@ -106,10 +106,10 @@ no_longer_end now t = let fits = by_count (eqb now.part.count 0) t in omega arit
         omega (
           arith,
           both,
-          line_length_lem columns_of now.receiver now.lines line (part_small now.part),
+          line_length_lem columns_of now.receiver now.lines line,
           ranged_counts after t (line_keeps columns_of receiver_whole_frames now.receiver line w),
         ))
-        (λ w. omega (arith, both, refused_line_lem now.receiver now.lines line w (part_small now.part), any_counts after.core t))
+        (λ w. omega (arith, both, refused_line_lem now.receiver now.lines line w, any_counts after.core t))
 
     by_count : (b : Bool) → TypesHold (cond b now (line_ended columns_of now line)).receiver.core
         → length (cond b [] text ++ core_end_text (cond b now (line_ended columns_of now line)).receiver.core) ≤ longest_end

@@ -1,7 +1,7 @@
 -- The line so far stands for its characters, however they came. Assumes nothing.
-use Rattle.std.proofs.Common.{◌≡◌, ℕ, ◌+◌, ◌<◌, ◌≤◌, ltb, ◌⊎◌, List, [], ◌∷◌, ◌++◌, length, take, set, sym, refl, ap, ◌∙◌, inl, inr, append_assoc, append-nil, add-one, arith, length-append, length-set, take-suc-set, ltb-false, ltb-true, le-ltb, lt-ltb, ne_eqb}
+use Rattle.std.proofs.Common.{◌≡◌, ℕ, ◌+◌, ◌<◌, ◌≤◌, ltb, ◌⊎◌, List, [], ◌∷◌, ◌++◌, length, take, set, sym, refl, ap, ◌∙◌, inl, inr, append_assoc, append-nil, add-one, arith, length-append, length-set, take-suc-set, ltb-false, ltb-true, le-ltb, lt-ltb, ne_eqb, Err}
 use Rattle.laws.proofs.Rules.{by_test}
-use Rattle.stored_line.specs.declared.StoredLine.TheVariants.{Refused}
+use Rattle.refusals.specs.declared.Refusal.TheVariants.{LineLength}
 use Rattle.stored_line.specs.Read.{read_line}
 use Rattle.line_report.specs.declared.LinePart.{LinePart}
 use Rattle.line_report.specs.Report.{line_part, long_part, with_character, with_characters, read_part}
@@ -76,7 +76,7 @@ holds_more part line (character ∷ more) h =
 
 -- ---- the line that ends here
 
-too_long : (line : List ℕ) → 11 < length line → read_line line ≡ Refused 10
+too_long : (line : List ℕ) → 11 < length line → read_line line ≡ Err LineLength
 unfolding read_line
 too_long line h = rw (ne_eqb (length line) 4 (λ e. omega arith), ne_eqb (length line) 11 (λ e. omega arith)) refl
 

@@ -1,5 +1,5 @@
 -- The 41 ones after a line with verdict 7. Assumes nothing.
-use Rattle.std.proofs.Common.{◌≡◌, ℕ, true, ap, arith, eq-eqb}
+use Rattle.std.proofs.Common.{◌≡◌, ℕ, true, ap, arith, eq-eqb, Result, Ok, Err}
 use Rattle.frame.specs.Columns.{columns_of}
 use Rattle.receiver_state.specs.declared.Receiver.{Receiver}
 use Rattle.receiver_state.specs.State.{wanting_ones, nothing_held, receiver}
@@ -7,14 +7,14 @@ use Rattle.receiver_state.specs.WellFormed.{well_formed}
 use Rattle.receiver.specs.declared.ClockAnswer.{ClockAnswer}
 use Rattle.whole_frame.specs.WholeFrame.{LeftWanting, settled_clock}
 use Rattle.whole_frame.proofs.WholeFrameLaw.{receiver_whole_frames}
-use Rattle.stored_line.specs.declared.StoredLine.{StoredLine}
-use Rattle.stored_line.specs.declared.StoredLine.TheVariants.{Frame, Refused}
+use Rattle.refusals.specs.declared.Refusal.{Refusal}
+use Rattle.stored_line.specs.declared.StoredFrame.{StoredFrame}
 use Rattle.line_report.specs.Output.{feed_line, ones_sent}
 
 -- what a line with verdict 7 leaves
-pub line_wants : (r : Receiver) (line : StoredLine) → LeftWanting (feed_line columns_of r line)
-line_wants r (Frame kind number) = receiver_whole_frames.wants_after_7 r kind number
-line_wants r (Refused refusal) = λ e. absurd (zero_not_7 e)
+pub line_wants : (r : Receiver) (line : Result StoredFrame Refusal) → LeftWanting (feed_line columns_of r line)
+line_wants r (Ok frame) = receiver_whole_frames.wants_after_7 r frame.kind frame.number
+line_wants r (Err refusal) = λ e. absurd (zero_not_7 e)
   where
     zero_not_7 : ◌≡◌ {A = ℕ} 0 7 → ⊥
     zero_not_7 z = omega arith

@@ -1,23 +1,23 @@
 -- A turn of the loop keeps what comes of it all, and the last one leaves nothing to do. Assumes nothing.
-use Rattle.std.proofs.Common.{◌≡◌, ℕ, suc, ◌+◌, ◌-◌, ◌<◌, ◌≤◌, eqb, ◌≢◌, List, [], ◌∷◌, ◌++◌, length, take, drop, sym, refl, ap, ◌∙◌, subst, ap₂, add-zero, zero-add, arith, length-append, length-drop, drop_of_length-le, take_all, drop-drop, le-ltb, lt-ltb}
+use Rattle.std.proofs.Common.{◌≡◌, ℕ, suc, ◌+◌, ◌-◌, ◌^◌, ◌<◌, ◌≤◌, eqb, ◌≢◌, List, [], ◌∷◌, ◌++◌, length, take, drop, sym, refl, ap, ◌∙◌, subst, ap₂, add-zero, zero-add, arith, length-append, length-drop, drop_of_length-le, take_all, drop-drop, le-ltb, lt-ltb, Result}
 use native.Mathlib.Nat.{sub-zero}
 use lib.Seq.{sets}
 use Rattle.laws.proofs.Rules.{picked}
 use Rattle.frame.specs.declared.Kind.{Kind}
 use Rattle.frame.specs.Columns.{columns_of}
-use Rattle.stored_line.specs.declared.StoredLine.{StoredLine}
-use Rattle.stored_line.proofs.Refusals.{RefusalSmall}
+use Rattle.refusals.specs.declared.Refusal.{Refusal}
+use Rattle.stored_line.specs.declared.StoredFrame.{StoredFrame}
 use Rattle.line_report.specs.declared.LinePart.{LinePart}
 use Rattle.line_report.specs.declared.Report.{Report}
 use Rattle.line_report.specs.declared.Reported.{Reported}
 use Rattle.line_report.specs.Text.{core_end_text}
-use Rattle.line_report.specs.Write.{TextAt, RoomForEnd}
+use Rattle.line_report.specs.Write.{TextAt}
 use Rattle.line_report.specs.Report.{report, with_characters, read_part, line_ended, line_end_prints, until_feed, longest_line, Work, work, work_on, report_done, done_by, room_wanted, report_input, longest_end, after_last, last_prints, end_prints, end_work, end_wanted, report_end}
 use Rattle.line_report.specs.EndLength.{TypesHold}
 use Rattle.line_report.specs.Turn.{placed, finished_from, Turned}
 use Rattle.laws.proofs.Sets.{sets_append, sets_front}
 use Rattle.line_report.proofs.Write.{then_text, kept_length}
-use Rattle.line_report.proofs.Bounds.{part_small, line_length_lem}
+use Rattle.line_report.proofs.Bounds.{line_length_lem}
 use Rattle.line_report.proofs.EndLength.{no_longer_end}
 use Rattle.line_report.proofs.Work.{no_room, to_the_end, line_to, text_to, work_behind, to_the_feed, work_fits}
 
@@ -124,7 +124,7 @@ module _ (columns : Kind → List ℕ) (before : Reported) (input buffer : List 
               arith,
               t.next_is,
               kept_length t,
-              line_length_lem columns before.report.receiver before.report.lines (line_to columns before.report rest_of n) (part_small _),
+              line_length_lem columns before.report.receiver before.report.lines (line_to columns before.report rest_of n),
             );
         not_stopped = refl;
       }
@@ -146,14 +146,12 @@ module _ (columns : Kind → List ℕ) (before : Reported) (input buffer : List 
     pub code_within : before.used + until ≤ length input
     code_within = omega (arith, until_le rest_of, u, ap until_feed rest_read_lem, size_of_rest)
 
-    module _ (line : StoredLine) (l : line ≡ read_part (with_characters before.report.part (take until rest_read))) where
+    module _ (line : Result StoredFrame Refusal) (l : line ≡ read_part (with_characters before.report.part (take until rest_read))) where
       line_is : line ≡ line_to columns before.report rest_of (until_feed rest_of)
       line_is = l ∙ ap₂ (λ (n : ℕ) (rest : List ℕ). line_to columns before.report rest n) (u ∙ ap until_feed rest_read_lem) rest_read_lem
 
       pub code_room : before.written + length (line_end_prints columns before.report line) ≤ length buffer
-      code_room =
-          let small : RefusalSmall line = rw l (part_small (with_characters before.report.part (take until rest_read))) in
-          omega (arith, line_length_lem columns before.report.receiver before.report.lines line small)
+      code_room = omega (arith, line_length_lem columns before.report.receiver before.report.lines line)
 
       pub code_feed : until ≢ length rest_read → (ended : Report) (next : ℕ) (buffer' : List ℕ) → ended ≡ line_ended columns before.report line
           → TextAt next before.written (line_end_prints columns before.report line) buffer buffer'
@@ -200,7 +198,8 @@ module _ (columns : Kind → List ℕ) (now : Report) (input buffer : List ℕ) 
 pub counts_room : (now ended : Report) {buffer buffer₁ : List ℕ} {next : ℕ} → longest_end ≤ length buffer
     → ended ≡ after_last columns_of now → TextAt next 0 (last_prints columns_of now) buffer buffer₁
     → let core = ended.receiver.core in
-    RoomForEnd core.errors.single core.errors.double core.counters.event core.counters.bunch next buffer₁
+    core.errors.single < 2 ^ 16 → core.errors.double < 2 ^ 8 → core.counters.event < 2 ^ 32 → core.counters.bunch < 2 ^ 16
+    → next + length (core_end_text core) ≤ length buffer₁
 counts_room now ended room e s single double event bunch =
     let types : TypesHold ended.receiver.core = record { single_16 = single; double_8 = double; event_32 = event; bunch_16 = bunch } in
     let no_longer : length (end_prints columns_of now) ≤ longest_end = no_longer_end now (subst (λ (r : Report). TypesHold r.receiver.core) e types) in

@@ -1,12 +1,13 @@
 -- The work on a piece of input: to the end where no line feed is left, and from line to line. Assumes nothing.
-use Rattle.std.proofs.Common.{◌≡◌, ℕ, suc, ◌+◌, ◌-◌, ◌*◌, ◌<◌, ◌≤◌, true, false, eqb, ltb, List, [], ◌∷◌, ◌++◌, length, take, drop, sym, refl, ap, ◌∙◌, suc-add, zero-add, arith, length-append, ltb-false, le-ltb, lt-ltb}
+use Rattle.std.proofs.Common.{◌≡◌, ℕ, suc, ◌+◌, ◌-◌, ◌*◌, ◌<◌, ◌≤◌, true, false, eqb, ltb, List, [], ◌∷◌, ◌++◌, length, take, drop, sym, refl, ap, ◌∙◌, suc-add, zero-add, arith, length-append, ltb-false, le-ltb, lt-ltb, Result}
 use native.Mathlib.Nat.{sub-zero}
 use Rattle.laws.proofs.Rules.{picked, picked_by, by_test}
 use Rattle.frame.specs.declared.Kind.{Kind}
-use Rattle.stored_line.specs.declared.StoredLine.{StoredLine}
+use Rattle.refusals.specs.declared.Refusal.{Refusal}
+use Rattle.stored_line.specs.declared.StoredFrame.{StoredFrame}
 use Rattle.line_report.specs.declared.Report.{Report}
 use Rattle.line_report.specs.Report.{report, with_character, with_characters, read_part, line_ended, line_end_prints, after_byte, byte_prints, until_feed, longest_line, Work, work, behind, work_on}
-use Rattle.line_report.proofs.Bounds.{part_small, line_length_lem}
+use Rattle.line_report.proofs.Bounds.{line_length_lem}
 
 -- ---- where the next line feed is
 
@@ -69,7 +70,7 @@ module _ (columns : Kind → List ℕ) where
       ∙ ap (behind []) (to_the_end room (report now.receiver now.lines (with_character now.part byte)) bytes h (later byte bytes e t)))
 
   -- behind a line of n characters and its line feed
-  abbrev pub line_to : Report → List ℕ → ℕ → StoredLine
+  abbrev pub line_to : Report → List ℕ → ℕ → Result StoredFrame Refusal
   line_to now rest n = read_part (with_characters now.part (take n rest))
 
   abbrev pub text_to : Report → List ℕ → ℕ → List ℕ
@@ -116,7 +117,7 @@ module _ (columns : Kind → List ℕ) where
   unfolding byte_prints
   byte_fits now byte =
       picked (λ (text : List ℕ). length text ≤ longest_line) (eqb byte 10)
-      (line_length_lem columns now.receiver now.lines (read_part now.part) (part_small now.part))
+      (line_length_lem columns now.receiver now.lines (read_part now.part))
       (omega arith)
 
   pub work_fits : (room : ℕ) (now : Report) (input : List ℕ) → length (work_on columns room now input).text ≤ room

@@ -1,13 +1,14 @@
 -- Document 01, "Stored lines", with document 02, Q-1: what the program `ttclines` prints of an input as a whole, line by line.
-use Rattle.std.specs.Prelude.{ℕ, ◌+◌, ◌%◌, ◌^◌, cond, List, [], ◌∷◌, ◌++◌, replicate, ◌==◌}
+use Rattle.std.specs.Prelude.{ℕ, ◌+◌, ◌%◌, ◌^◌, cond, List, [], ◌∷◌, ◌++◌, replicate, ◌==◌, Result, Ok, Err}
 use Rattle.frame.specs.declared.Kind.{Kind}
 use Rattle.receiver_state.specs.declared.Receiver.{Receiver}
 use Rattle.receiver_state.specs.State.{ids, fresh_state}
 use Rattle.receiver.specs.declared.ClockAnswer.{ClockAnswer}
 use Rattle.receiver.specs.Clock.{refused_clock}
 use Rattle.whole_frame.specs.WholeFrame.{clocks_answer, no_clock, receive_answer}
-use Rattle.stored_line.specs.declared.StoredLine.{StoredLine}
-use Rattle.stored_line.specs.declared.StoredLine.TheVariants.{Frame, Refused}
+use Rattle.refusals.specs.declared.Refusal.{Refusal}
+use Rattle.refusals.specs.Refusals.{number}
+use Rattle.stored_line.specs.declared.StoredFrame.{StoredFrame}
 use Rattle.stored_line.specs.Read.{read_line}
 use Rattle.line_report.specs.Text.{word_digits, line_text, core_end_text}
 
@@ -31,9 +32,9 @@ lines_of input = lines_after [] input
 
 -- "feeds each line's bits with no triggers and no idle between": the last bit's clock. A refused line feeds no bit. On a receiver that is not
 -- well formed, a line that is a frame is refused by 2; another by its own 10, 11 or 12.
-abbrev pub feed_line : (Kind → List ℕ) → Receiver → StoredLine → ClockAnswer
-feed_line columns r (Frame kind number) = receive_answer columns r kind number
-feed_line columns r (Refused refusal) = refused_clock refusal r
+abbrev pub feed_line : (Kind → List ℕ) → Receiver → Result StoredFrame Refusal → ClockAnswer
+feed_line columns r (Ok frame) = receive_answer columns r frame.kind frame.number
+feed_line columns r (Err refusal) = refused_clock (number refusal) r
 
 -- document 02, Q-1: "`ttclines` now sends 41 ones after each line with verdict 7." They come without triggers.
 unfoldable pub ones_sent : (Kind → List ℕ) → ClockAnswer → Receiver
@@ -41,7 +42,7 @@ ones_sent columns answer =
     cond (answer.outputs.verdict == 7) (clocks_answer columns (no_clock answer.receiver) (replicate 41 1)).receiver answer.receiver
 
 -- the receiver after a line, and after the ones that follow it
-abbrev pub after_line : (Kind → List ℕ) → Receiver → StoredLine → Receiver
+abbrev pub after_line : (Kind → List ℕ) → Receiver → Result StoredFrame Refusal → Receiver
 after_line columns r line = ones_sent columns (feed_line columns r line)
 
 -- the number of the next line; it has 64 bits
@@ -49,7 +50,7 @@ abbrev pub next_line : ℕ → ℕ
 next_line lines = (lines + 1) % 2 ^ 64
 
 -- the text of a line that comes after so many lines; the ones that follow it print nothing
-abbrev pub line_prints : (Kind → List ℕ) → Receiver → ℕ → StoredLine → List ℕ
+abbrev pub line_prints : (Kind → List ℕ) → Receiver → ℕ → Result StoredFrame Refusal → List ℕ
 line_prints columns r lines line = line_text (next_line lines) (word_digits line) (feed_line columns r line)
 
 -- ---- what an input prints

@@ -1,14 +1,15 @@
 -- Document 01, "Stored lines", with document 02, Q-1 and Q-8, for an input that comes in pieces: the report's state, one byte of input, a
 -- piece, and the end of input.
 -- `Report`, `LinePart` and `Reported` are structs of src/lib.rt.
-use Rattle.std.specs.Prelude.{ℕ, suc, ◌+◌, ◌-◌, cond, List, [], ◌∷◌, ◌++◌, length, take, drop, ◌==◌, nat_lt, slice_set}
+use Rattle.std.specs.Prelude.{ℕ, suc, ◌+◌, ◌-◌, cond, List, [], ◌∷◌, ◌++◌, length, take, drop, ◌==◌, nat_lt, slice_set, Result, Err}
 use Rattle.frame.specs.declared.Kind.{Kind}
 use Rattle.frame.specs.declared.Kind.TheVariants.{Long}
 use Rattle.frame.specs.Place.{largest_place}
 use Rattle.receiver_state.specs.declared.Receiver.{Receiver}
 use Rattle.verdicts.specs.Table.{largest_verdict}
-use Rattle.stored_line.specs.declared.StoredLine.{StoredLine}
-use Rattle.stored_line.specs.declared.StoredLine.TheVariants.{Refused}
+use Rattle.refusals.specs.declared.Refusal.{Refusal}
+use Rattle.refusals.specs.declared.Refusal.TheVariants.{LineLength}
+use Rattle.stored_line.specs.declared.StoredFrame.{StoredFrame}
 use Rattle.stored_line.specs.Read.{read_line}
 use Rattle.line_report.specs.declared.LinePart.{LinePart}
 use Rattle.line_report.specs.declared.Report.{Report}
@@ -46,8 +47,8 @@ until_feed [] = 0
 until_feed (byte ∷ bytes) = cond (byte == 10) 0 (suc (until_feed bytes))
 
 -- the line, if it ends here
-unfoldable pub read_part : LinePart → StoredLine
-read_part part = cond (nat_lt 11 part.count) (Refused 10) (read_line (take part.count part.characters))
+unfoldable pub read_part : LinePart → Result StoredFrame Refusal
+read_part part = cond (nat_lt 11 part.count) (Err LineLength) (read_line (take part.count part.characters))
 
 -- ---- a byte of input
 
@@ -60,10 +61,10 @@ start_report = report own_receiver 0 empty_part
 
 module _ (columns : Kind → List ℕ) where
   -- a line ends
-  abbrev pub line_ended : Report → StoredLine → Report
+  abbrev pub line_ended : Report → Result StoredFrame Refusal → Report
   line_ended now line = report (after_line columns now.receiver line) (next_line now.lines) empty_part
 
-  abbrev pub line_end_prints : Report → StoredLine → List ℕ
+  abbrev pub line_end_prints : Report → Result StoredFrame Refusal → List ℕ
   line_end_prints now line = line_prints columns now.receiver now.lines line
 
   -- a line feed ends the line; any other byte is one more character

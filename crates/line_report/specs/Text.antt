@@ -1,14 +1,14 @@
 -- Document 01, "Stored lines", with document 02, Q-8: the text that `ttclines` prints of a line, and at the end, as lists of characters' codes.
 -- "One space stands between fields."
-use Rattle.std.specs.Prelude.{ℕ, zero, suc, ◌/◌, ◌%◌, Bool, cond, List, [], ◌∷◌, ◌++◌, ◌==◌, nat_lt}
+use Rattle.std.specs.Prelude.{ℕ, zero, suc, ◌/◌, ◌%◌, Bool, cond, List, [], ◌∷◌, ◌++◌, ◌==◌, nat_lt, Result, Ok, Err}
 use Rattle.laws.specs.OneOf.{one_of}
 use Rattle.frame.specs.declared.Kind.{Kind}
 use Rattle.frame.specs.declared.Kind.TheVariants.{Short, Long}
 use Rattle.receiver_state.specs.declared.Core.{Core}
 use Rattle.receiver_state.specs.declared.Outputs.{Outputs}
 use Rattle.receiver.specs.declared.ClockAnswer.{ClockAnswer}
-use Rattle.stored_line.specs.declared.StoredLine.{StoredLine}
-use Rattle.stored_line.specs.declared.StoredLine.TheVariants.{Frame, Refused}
+use Rattle.refusals.specs.declared.Refusal.{Refusal}
+use Rattle.stored_line.specs.declared.StoredFrame.{StoredFrame}
 use Rattle.stored_line.specs.Digits.{digit_character, hex_digits}
 
 -- a number below 10^(more + 1), without leading zeros
@@ -27,9 +27,9 @@ kind_digits Short = 2
 kind_digits Long = 8
 
 -- by the kind of the line's own frame, whatever frame its last bit finishes; a refused line has no word
-abbrev pub word_digits : StoredLine → ℕ
-word_digits (Frame kind number) = kind_digits kind
-word_digits (Refused refusal) = 0
+abbrev pub word_digits : Result StoredFrame Refusal → ℕ
+word_digits (Ok frame) = kind_digits frame.kind
+word_digits (Err refusal) = 0
 
 -- "`-` for 7 and 8"; document 02, Q-8, of 8 and 11: "print `-`"
 unfoldable pub prints_dash : ℕ → Bool

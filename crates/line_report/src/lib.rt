@@ -5,27 +5,30 @@
 // is only read, and is lent; the text goes to the caller's own buffer, lent to be written.
 #![tactic(auto)]
 
-ghost use Rattle.std.specs.Prelude.{◌≡◌, ◌+◌, ◌<◌, ◌≤◌, length};
+ghost use Rattle.std.specs.Prelude.{◌≡◌, ◌+◌, ◌<◌, ◌≤◌, ◌==◌, length, position};
 ghost use Rattle.frame.specs.Columns.{columns_of};
+ghost use Rattle.receiver.specs.Clock.{clock_outcome};
 ghost use Rattle.whole_frame.specs.WholeFrame.{LeftWanting};
 ghost use Rattle.line_report.specs.Text.{kind_digits, word_digits};
 ghost use Rattle.line_report.specs.Output.{feed_line, ones_sent};
-ghost use Rattle.line_report.specs.Write.{TextAt};
+ghost use Rattle.line_report.specs.Write.{HasRoom, Puts};
 ghost use Rattle.line_report.specs.Turn.{Turned};
 ghost use Rattle.line_report.specs.Report.{start_report, until_feed, line_ended, line_end_prints, longest_line, after_last, last_prints, report_done, report_input, report_end};
 
 use frame::Kind;
 use part::{empty_part, read_behind, read_part, with_characters};
-use receiver::{ClockAnswer, refuse_clock};
+use receiver::{ClockAnswer, Stepped, clock_outcome};
 use receiver_state::{Receiver, fresh};
-use stored_line::StoredLine;
-use text::{put_end, put_line};
+use refusals::Refusal;
+use stored_line::StoredFrame;
+use text::Printer;
 use whole_frame::{after_41_ones, receive_frame};
 
 mod part;
 mod text;
 
-// The characters of a line so far, as far as they matter.
+// The characters of a line so far, as far as they matter. The C interface keeps them in an array, with
+// their count beside it.
 #[repr(C)]
 #[derive(Clone, Copy)]
 pub struct LinePart {
@@ -43,7 +46,7 @@ pub struct Report {
 }
 
 // What a call answers: the report, the bytes of input used, the bytes of the buffer written, and the
-// room that was wanted where its lack stopped the call.
+// room that was wanted where its lack stopped the call. The C interface has 0 where none was.
 #[repr(C)]
 #[derive(Clone, Copy)]
 pub struct Reported {
@@ -51,13 +54,6 @@ pub struct Reported {
     pub used: usize,
     pub written: usize,
     pub room_wanted: usize,
-}
-
-// What a line's end leaves: the report, and the position after its text in the buffer.
-#[derive(Clone, Copy)]
-struct Ended {
-    report: Report,
-    next: usize,
 }
 
 // The longest text of a line, and that of the end.
@@ -69,41 +65,38 @@ pub const LONGEST_END: usize = 66;
 pub fn start_report() -> Report
     ensures { result ≡ start_report }
 {
-    let start = fresh(5, 5);
-    let receiver = start.receiver;
-    let part = empty_part();
     Report {
-        receiver,
+        receiver: fresh(5, 5).unwrap(),
         lines: 0,
-        part,
+        part: empty_part(),
     }
+}
+
+fn first_feed(bytes: &[u8]) -> Option<usize>
+    ensures { result ≡ position (λ byte. byte == 10) bytes.now }
+{
+    bytes.iter().position(|byte| *byte == b'\n')
 }
 
 // How many bytes come before the first line feed.
-#[tactic(auto, using(crate::proofs::Feed::feed_found, crate::proofs::Feed::feed_passed, crate::proofs::Feed::no_feed_left))]
+#[tactic(auto, using(crate::proofs::Feed::position_of_feed))]
 fn until_feed(bytes: &[u8]) -> usize
     ensures { result ≡ until_feed bytes.now }
 {
-    let mut at = 0;
-    while at < bytes.len() {
-        if bytes[at] == b'\n' {
-            return at;
-        }
-        at += 1;
-    }
-    at
+    first_feed(bytes).unwrap_or(bytes.len())
 }
 
 // How many digits the word of a line's frame has.
-fn word_digits(line: StoredLine) -> usize
+fn word_digits(line: Result<StoredFrame, Refusal>) -> usize
     ensures { result ≡ word_digits line }
 {
     match line {
-        StoredLine::Frame { kind, number } => kind_digits(kind),
-        StoredLine::Refused { refusal } => 0,
+        Ok(frame) => kind_digits(frame.kind),
+        Err(_) => 0,
     }
 }
 
+// A number for each kind, as in frame.
 fn kind_digits(kind: Kind) -> usize
     ensures { result ≡ kind_digits kind }
 {
@@ -114,60 +107,56 @@ fn kind_digits(kind: Kind) -> usize
 }
 
 // A line's bits go through the receiver; a refused line has none.
-fn feed_line(receiver: Receiver, line: StoredLine) -> ClockAnswer
-    ensures { result ≡ feed_line columns_of receiver line }
+fn feed_line(receiver: Receiver, line: Result<StoredFrame, Refusal>) -> Result<Stepped, Refusal>
+    ensures { clock_outcome receiver result ≡ feed_line columns_of receiver line }
 {
-    match line {
-        StoredLine::Frame { kind, number } => receive_frame(receiver, kind, number),
-        StoredLine::Refused { refusal } => refuse_clock(refusal, receiver),
-    }
+    let frame = line?;
+    receive_frame(receiver, frame.kind, frame.number)
 }
 
 // Document 02, Q-1: 41 ones follow a line with verdict 7, since the line leaves the receiver wanting
 // them.
+// The verdict is C's number: `ones_sent` and `LeftWanting` speak of ClockAnswer.
 #[tactic(auto, using(laws::proofs::Rules::picks, crate::proofs::Ones::ones_follow), unfolding(crate::specs::Output::ones_sent))]
 fn send_ones(answer: ClockAnswer) -> Receiver
     requires { LeftWanting answer }
     ensures { result ≡ ones_sent columns_of answer }
 {
     if answer.outputs.verdict == 7 {
-        return after_41_ones(answer.receiver.core);
+        after_41_ones(answer.receiver.core)
+    } else {
+        answer.receiver
     }
-    answer.receiver
 }
 
 // A line ends: its bits go through the receiver, and its text is written. After verdict 7 the 41 ones
 // follow.
-fn end_line(report: Report, line: StoredLine, at: usize, out: &mut [u8]) -> Ended
-    requires { at + length (line_end_prints columns_of report line) ≤ length out.old }
-    ensures { (result.report ≡ line_ended columns_of report line) × (TextAt result.next at (line_end_prints columns_of report line) out.old out.new) }
+fn end_line(report: Report, line: Result<StoredFrame, Refusal>, printer: &mut Printer<'_>) -> Report
+    requires { HasRoom (line_end_prints columns_of report line) printer.old }
+    ensures left { result ≡ line_ended columns_of report line }
+    ensures printed { Puts (line_end_prints columns_of report line) printer.old printer.new }
 {
-    let answer = feed_line(report.receiver, line);
-    let lines = std::num::wrapping_add_u64(report.lines, 1);
-    let next = put_line(lines, word_digits(line), answer, at, out);
-    let receiver = send_ones(answer);
-    let part = empty_part();
-    let ended = Report {
-        receiver,
+    // The text has the papers' numbers, as C is handed them.
+    let answer = clock_outcome(report.receiver, feed_line(report.receiver, line));
+    let lines = report.lines.wrapping_add(1);
+    printer.put_line(lines, word_digits(line), answer);
+    Report {
+        receiver: send_ones(answer),
         lines,
-        part,
-    };
-    Ended {
-        report: ended,
-        next,
+        part: empty_part(),
     }
 }
 
 // A last line that has no line feed, unless it is empty.
-fn end_last(report: Report, out: &mut [u8]) -> Ended
-    requires { longest_line ≤ length out.old }
-    ensures { (result.report ≡ after_last columns_of report) × (TextAt result.next 0 (last_prints columns_of report) out.old out.new) }
+fn end_last(report: Report, printer: &mut Printer<'_>) -> Report
+    requires { printer.old.at + longest_line ≤ length printer.old.out.now }
+    ensures left { result ≡ after_last columns_of report }
+    ensures printed { Puts (last_prints columns_of report) printer.old printer.new }
 {
-    let part = report.part;
-    if part.count == 0 {
-        return Ended { report, next: 0 };
+    if report.part.count == 0 {
+        return report;
     }
-    end_line(report, read_part(part), 0, out)
+    end_line(report, read_part(report.part), printer)
 }
 
 // Works on to the next line feed, or to the end of the input. There is room for a line's text.
@@ -180,24 +169,26 @@ fn report_line(before: Reported, input: &[u8], out: &mut [u8]) -> Reported
     let until = until_feed(rest);
     let part = before.report.part;
     if until == rest.len() {
-        let part = with_characters(part, rest);
-        let mut report = before.report;
-        report.part = part;
         return Reported {
-            report,
+            report: Report {
+                part: with_characters(part, rest),
+                ..before.report
+            },
             used: input.len(),
             written: before.written,
             room_wanted: 0,
         };
     }
-    let characters = part.characters;
-    let line = read_behind(part.count, characters, &rest[..until]);
-    let ended = end_line(before.report, line, before.written, out);
-    let report = ended.report;
+    let line = read_behind(part.count, part.characters, &rest[..until]);
+    let mut printer = Printer {
+        out,
+        at: before.written,
+    };
+    let report = end_line(before.report, line, &mut printer);
     Reported {
         report,
         used: from + until + 1,
-        written: ended.next,
+        written: printer.at,
         room_wanted: 0,
     }
 }
@@ -208,22 +199,22 @@ pub fn report_input(report: Report, input: &[u8], out: &mut [u8]) -> Reported
     ensures out_after { report_done result out.new ≡ report_input columns_of report input.now out.old }
     ensures used_in_bounds { (result.used ≤ length input.now) × (result.written ≤ length out.old) }
 {
+    // Each number is told: a report has no default.
     let mut done = Reported {
         report,
         used: 0,
         written: 0,
         room_wanted: 0,
     };
-    loop {
-        if input.len() <= done.used {
-            return done;
-        }
+    // A turn takes a whole line, so it is no `for`.
+    while done.used < input.len() {
         if out.len() - done.written < LONGEST_LINE {
             done.room_wanted = LONGEST_LINE;
             return done;
         }
         done = report_line(done, input, out);
     }
+    done
 }
 
 // The end of input: a last line that has no line feed, and the line of the counts.
@@ -239,21 +230,14 @@ pub fn report_end(report: Report, out: &mut [u8]) -> Reported
             room_wanted: LONGEST_END,
         };
     }
-    let last = end_last(report, out);
-    let ended = last.report;
+    let mut printer = Printer { out, at: 0 };
+    let ended = end_last(report, &mut printer);
     let core = ended.receiver.core;
-    let written = put_end(
-        core.errors.single,
-        core.errors.double,
-        core.counters.event,
-        core.counters.bunch,
-        last.next,
-        out,
-    );
+    printer.put_end(core.errors, core.counters);
     Reported {
         report: ended,
         used: 0,
-        written,
+        written: printer.at,
         room_wanted: 0,
     }
 }

@@ -5,7 +5,8 @@ ghost use Rattle.stored_line.specs.Read.{read_line};
 ghost use Rattle.line_report.specs.Report.{line_part, empty_part, long_part, with_character, with_characters, read_part};
 
 use crate::LinePart;
-use stored_line::{StoredLine, read_line};
+use refusals::Refusal;
+use stored_line::{StoredFrame, read_line};
 
 pub(crate) fn empty_part() -> LinePart
     ensures { result ≡ empty_part }
@@ -16,6 +17,7 @@ pub(crate) fn empty_part() -> LinePart
     }
 }
 
+// Two functions, since specs/ has `empty_part` and `long_part`.
 fn long_part() -> LinePart
     ensures { result ≡ long_part }
 {
@@ -26,33 +28,32 @@ fn long_part() -> LinePart
 }
 
 // One character more.
+#[tactic(auto, using(laws::proofs::Rules::picks), unfolding(crate::specs::Report::with_character))]
 fn with_character(part: LinePart, character: u8) -> LinePart
     ensures { result ≡ with_character part character }
 {
-    let count = part.count;
-    if count < 11 {
-        let at = count as usize;
+    if part.count < 11 {
         let mut next = part;
-        next.characters[at] = character;
-        next.count = count + 1;
-        return next;
+        next.characters[part.count as usize] = character;
+        next.count += 1;
+        next
+    } else {
+        long_part()
     }
-    long_part()
 }
 
 pub(crate) fn with_characters(part: LinePart, characters: &[u8]) -> LinePart
     ensures { result ≡ with_characters part characters.now }
 {
     let mut next = part;
-    let mut at = 0;
-    while at < characters.len() {
-        next = with_character(next, characters[at]);
-        at += 1;
+    for character in characters {
+        next = with_character(next, *character);
     }
     next
 }
 
-fn read_first(characters: [u8; 11], count: usize) -> StoredLine
+// The array is a parameter of its own: as a field it gives the proof no fact of its length.
+fn read_first(characters: [u8; 11], count: usize) -> Result<StoredFrame, Refusal>
     requires { count ≤ 11 }
     ensures { result ≡ read_line (take count characters) }
 {
@@ -60,23 +61,29 @@ fn read_first(characters: [u8; 11], count: usize) -> StoredLine
 }
 
 // The line, if it ends here.
-pub(crate) fn read_part(part: LinePart) -> StoredLine
+#[tactic(auto, using(laws::proofs::Rules::picks), unfolding(crate::specs::Report::read_part))]
+pub(crate) fn read_part(part: LinePart) -> Result<StoredFrame, Refusal>
     ensures { result ≡ read_part part }
 {
     if part.count > 11 {
-        return StoredLine::Refused { refusal: 10 };
+        Err(Refusal::LineLength)
+    } else {
+        read_first(part.characters, part.count as usize)
     }
-    let characters = part.characters;
-    read_first(characters, part.count as usize)
 }
 
-// The line that ends after these characters of it and more. One that is not cut needs no copy.
-pub(crate) fn read_behind(count: u8, characters: [u8; 11], more: &[u8]) -> StoredLine
+// The line that ends after these characters of it and more. One that is not cut needs no copy. Count and
+// array come apart, as in `read_first`.
+pub(crate) fn read_behind(
+    count: u8,
+    characters: [u8; 11],
+    more: &[u8],
+) -> Result<StoredFrame, Refusal>
     ensures { result ≡ read_part (with_characters (line_part count characters) more.now) }
 {
     if count == 0 {
-        return read_line(more);
+        read_line(more)
+    } else {
+        read_part(with_characters(LinePart { count, characters }, more))
     }
-    let part = LinePart { count, characters };
-    read_part(with_characters(part, more))
 }

@@ -14,7 +14,7 @@ use Rattle.frame.specs.declared.Kind.TheVariants.{Short, Long}
 use Rattle.frame.specs.Numbers.{stop_bit}
 use Rattle.frame.specs.Columns.{columns_of}
 use Rattle.frame.specs.Place.{places, largest_place}
-use Rattle.frame.proofs.Columns.{tables_good}
+use Rattle.frame.proofs.OwnColumns.{tables_good}
 use Rattle.receiver_state.specs.declared.Settings.{Settings}
 use Rattle.receiver_state.specs.declared.Errors.{Errors}
 use Rattle.receiver_state.specs.declared.Core.{Core}

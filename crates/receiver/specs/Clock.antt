@@ -1,5 +1,7 @@
 -- Document 01, "One clock" and "Numbers of refusal": one clock of a receiver, over the columns of each kind of frame.
-use Rattle.std.specs.Prelude.{ℕ, cond, List, ltb}
+use Rattle.std.specs.Prelude.{ℕ, cond, List, ltb, Result, Ok, Err}
+use Rattle.refusals.specs.declared.Refusal.{Refusal}
+use Rattle.refusals.specs.Refusals.{number}
 use Rattle.frame.specs.declared.Kind.{Kind}
 use Rattle.receiver_state.specs.declared.Held.{Held}
 use Rattle.receiver_state.specs.declared.Receiver.{Receiver}
@@ -12,6 +14,7 @@ use Rattle.channel_b.specs.declared.Taken.{Taken}
 use Rattle.channel_b.specs.declared.Taken.TheVariants.{Unfinished, Finished}
 use Rattle.channel_b.specs.TakeBit.{take_bit, held_after_bit}
 use Rattle.verdicts.specs.Finished.{finished_by}
+use Rattle.receiver.specs.declared.Stepped.{Stepped}
 use Rattle.receiver.specs.declared.ClockAnswer.{ClockAnswer}
 
 -- "Verdict 0: no frame finished on this clock."
@@ -39,3 +42,12 @@ clock_answer columns r trigger bit =
     (cond (ltb 1 bit) (refused_clock 1 r)
     (step_answer columns r trigger bit)))
     (refused_clock 2 r)
+
+-- what a clock leaves and shows that is not refused, as C is handed it
+abbrev pub accepted : Stepped → ClockAnswer
+accepted done = record { refusal = 0; receiver = done.receiver; outputs = done.outputs }
+
+-- what C is handed by a clock on this state
+abbrev pub clock_outcome : Receiver → Result Stepped Refusal → ClockAnswer
+clock_outcome r (Ok done) = accepted done
+clock_outcome r (Err refusal) = refused_clock (number refusal) r

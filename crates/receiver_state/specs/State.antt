@@ -1,5 +1,7 @@
 -- Document 01, "Registers": the fresh state, and states with one part changed. `Receiver` and its parts are the structs of src/lib.rt.
-use Rattle.std.specs.Prelude.{ℕ, ◌+◌, ◌*◌, ◌%◌, ◌^◌, Bool, cond, ◌&&◌, eqb, ltb}
+use Rattle.std.specs.Prelude.{ℕ, ◌+◌, ◌*◌, ◌%◌, ◌^◌, Bool, cond, ◌&&◌, eqb, ltb, Result, Ok, Err}
+use Rattle.refusals.specs.declared.Refusal.{Refusal}
+use Rattle.refusals.specs.Refusals.{number}
 use Rattle.receiver_state.specs.declared.Ids.{Ids}
 use Rattle.receiver_state.specs.declared.Settings.{Settings}
 use Rattle.receiver_state.specs.declared.Errors.{Errors}
@@ -100,6 +102,11 @@ fresh_of refusal r = record { refusal = refusal; receiver = r }
 
 abbrev pub refused_fresh : ℕ → FreshAnswer
 refused_fresh refusal = fresh_of refusal zero_state
+
+-- what C is handed: the number of refusal, and the state, every field 0 where refused
+abbrev pub fresh_made : Result Receiver Refusal → FreshAnswer
+fresh_made (Ok made) = fresh_of 0 made
+fresh_made (Err refusal) = refused_fresh (number refusal)
 
 -- refusal 3, "ID 0 or over 16383", "first"; 4, "I2C ID over 63", "after 3"
 unfoldable pub fresh_answer : ℕ → ℕ → FreshAnswer

@@ -8,16 +8,17 @@
 #![tactic(auto)]
 
 ghost use Rattle.std.specs.Prelude.{◌≡◌};
-ghost use Rattle.receiver_state.specs.State.{receiver, nothing_held, is_waiting, new_core, fresh_core, fresh_of, refused_fresh, fresh_answer};
+ghost use Rattle.receiver_state.specs.State.{is_waiting, fresh_core, fresh_made, fresh_answer};
 ghost use Rattle.receiver_state.specs.Shown.{no_outputs};
 ghost use Rattle.receiver_state.specs.WellFormed.{well_formed};
 
 use form::{core_ok, held_ok};
+use refusals::Refusal;
 
 mod form;
 
 #[repr(C)]
-#[derive(Clone, Copy)]
+#[derive(Clone, Copy, Default, PartialEq, Eq)]
 pub struct Ids {
     pub id: u16,
     pub i2c: u8,
@@ -25,7 +26,7 @@ pub struct Ids {
 
 // Registers 0 to 3, 20 and 21.
 #[repr(C)]
-#[derive(Clone, Copy)]
+#[derive(Clone, Copy, Default, PartialEq, Eq)]
 pub struct Settings {
     pub fine1: u8,
     pub fine2: u8,
@@ -37,7 +38,7 @@ pub struct Settings {
 
 // The error counters, and bit 5 of the status.
 #[repr(C)]
-#[derive(Clone, Copy)]
+#[derive(Clone, Copy, Default, PartialEq, Eq)]
 pub struct Errors {
     pub single: u16,
     pub double: u8,
@@ -45,7 +46,7 @@ pub struct Errors {
 }
 
 #[repr(C)]
-#[derive(Clone, Copy)]
+#[derive(Clone, Copy, Default, PartialEq, Eq)]
 pub struct Counters {
     pub bunch: u16,
     pub event: u32,
@@ -53,7 +54,7 @@ pub struct Counters {
 
 // The words that a sequence has still to show, and the event number kept for them.
 #[repr(C)]
-#[derive(Clone, Copy)]
+#[derive(Clone, Copy, Default, PartialEq, Eq)]
 pub struct Sequence {
     pub left: u8,
     pub event: u32,
@@ -61,7 +62,7 @@ pub struct Sequence {
 
 // All of a receiver but what it keeps of channel B.
 #[repr(C)]
-#[derive(Clone, Copy)]
+#[derive(Clone, Copy, Default, PartialEq, Eq)]
 pub struct Core {
     pub ids: Ids,
     pub settings: Settings,
@@ -72,8 +73,9 @@ pub struct Core {
 
 // What is kept of channel B: the bits of an unfinished frame, the first received most significant; or
 // the ones still wanted after a frame with stop bit 0. While waiting, neither.
+// C has the bits so, with their count beside them.
 #[repr(C)]
-#[derive(Clone, Copy)]
+#[derive(Clone, Copy, Default, PartialEq, Eq)]
 pub struct Held {
     pub count: u8,
     pub wanted: u8,
@@ -81,12 +83,13 @@ pub struct Held {
 }
 
 #[repr(C)]
-#[derive(Clone, Copy)]
+#[derive(Clone, Copy, Default, PartialEq, Eq)]
 pub struct Receiver {
     pub core: Core,
     pub held: Held,
 }
 
+// What C is handed for a fresh state: the number of refusal, and the state, all zeros where refused.
 #[repr(C)]
 #[derive(Clone, Copy)]
 pub struct FreshAnswer {
@@ -94,10 +97,27 @@ pub struct FreshAnswer {
     pub receiver: Receiver,
 }
 
+impl From<Result<Receiver, Refusal>> for FreshAnswer {
+    ghost from_gives = { λ given answer. answer ≡ fresh_made given };
+
+    fn from(given: Result<Receiver, Refusal>) -> FreshAnswer {
+        match given {
+            Ok(receiver) => FreshAnswer {
+                refusal: 0,
+                receiver,
+            },
+            Err(refusal) => FreshAnswer {
+                refusal: u8::from(refusal),
+                receiver: Receiver::default(),
+            },
+        }
+    }
+}
+
 // What a clock shows: trigger output and missed flag, the bus, and the frame that it finished. In this
-// order there is no padding.
+// order there is no padding. The C interface has flags, strobe and verdict as numbers.
 #[repr(C)]
-#[derive(Clone, Copy)]
+#[derive(Clone, Copy, Default, PartialEq, Eq)]
 pub struct Outputs {
     pub trigger: u8,
     pub missed: u8,
@@ -120,20 +140,11 @@ pub struct Clocked {
 pub fn no_outputs() -> Outputs
     ensures { result ≡ no_outputs }
 {
-    Outputs {
-        trigger: 0,
-        missed: 0,
-        number: 0,
-        strobe: 0,
-        verdict: 0,
-        corrected: 0,
-        place: 0,
-        word: 0,
-    }
+    Outputs::default()
 }
 
 // Whether the receiver waits for a start bit.
-#[tactic(auto, using(laws::proofs::Rules::picks), unfolding(crate::specs::State::is_waiting))]
+#[tactic(auto, unfolding(crate::specs::State::is_waiting))]
 pub fn is_waiting(held: Held) -> bool
     ensures { result ≡ is_waiting held }
 {
@@ -141,87 +152,46 @@ pub fn is_waiting(held: Held) -> bool
 }
 
 // Whether the state is one that a clock accepts.
+#[tactic(auto, unfolding(laws::specs::Tests::every, crate::specs::WellFormed::well_formed))]
 pub fn well_formed(receiver: Receiver) -> bool
     ensures { result ≡ well_formed receiver }
 {
-    if !core_ok(receiver.core) {
-        return false;
-    }
-    held_ok(receiver.held)
+    core_ok(receiver.core) && held_ok(receiver.held)
 }
 
-// Counters at 0, and no sequence.
-fn core_of(ids: Ids, settings: Settings, status5: u8) -> Core
-    ensures { result ≡ new_core ids settings status5 }
-{
-    Core {
-        ids,
-        settings,
-        errors: Errors {
-            single: 0,
-            double: 0,
-            status5,
-        },
-        counters: Counters { bunch: 0, event: 0 },
-        sequence: Sequence { left: 0, event: 0 },
-    }
-}
-
-// The fresh state of these IDs, but for what is kept of channel B.
+// The fresh state of these IDs, but for what is kept of channel B: counters at 0, and no sequence.
 pub fn fresh_core(ids: Ids) -> Core
     ensures { result ≡ fresh_core ids }
 {
-    let settings = Settings {
-        fine1: 0,
-        fine2: 0,
-        coarse: 0,
-        control: 0x93,
-        config2: 0x85,
-        config3: 0xA7,
-    };
-    core_of(ids, settings, 1)
-}
-
-fn fresh_answer(refusal: u8, core: Core) -> FreshAnswer
-    ensures { result ≡ fresh_of refusal (receiver core nothing_held) }
-{
-    let held = Held {
-        count: 0,
-        wanted: 0,
-        bits: 0,
-    };
-    let receiver = Receiver { core, held };
-    FreshAnswer { refusal, receiver }
-}
-
-// A refused fresh state: every field 0.
-fn refuse_fresh(refusal: u8) -> FreshAnswer
-    ensures { result ≡ refused_fresh refusal }
-{
-    let settings = Settings {
-        fine1: 0,
-        fine2: 0,
-        coarse: 0,
-        control: 0,
-        config2: 0,
-        config3: 0,
-    };
-    fresh_answer(refusal, core_of(Ids { id: 0, i2c: 0 }, settings, 0))
+    Core {
+        ids,
+        settings: Settings {
+            control: 0x93,
+            config2: 0x85,
+            config3: 0xA7,
+            ..Settings::default()
+        },
+        errors: Errors {
+            status5: 1,
+            ..Errors::default()
+        },
+        ..Core::default()
+    }
 }
 
 // The fresh state of these IDs.
-#[tactic(auto, using(laws::proofs::Rules::picks), unfolding(crate::specs::State::fresh_answer))]
-pub fn fresh(id: u16, i2c: u8) -> FreshAnswer
-    ensures { result ≡ fresh_answer id i2c }
+#[tactic(auto, unfolding(crate::specs::State::fresh_answer, refusals::specs::Refusals::number))]
+pub fn fresh(id: u16, i2c: u8) -> Result<Receiver, Refusal>
+    ensures { fresh_made result ≡ fresh_answer id i2c }
 {
-    if id == 0 {
-        return refuse_fresh(3);
-    }
-    if id > 16383 {
-        return refuse_fresh(3);
+    if id == 0 || id > 16383 {
+        return Err(Refusal::Id);
     }
     if i2c > 63 {
-        return refuse_fresh(4);
+        return Err(Refusal::I2cId);
     }
-    fresh_answer(0, fresh_core(Ids { id, i2c }))
+    Ok(Receiver {
+        core: fresh_core(Ids { id, i2c }),
+        held: Held::default(),
+    })
 }

@@ -1,27 +1,26 @@
--- Document 02, Q-11: clocks, whole frames and blocks with lent columns. `ClockWithIndex` and `BlockWithIndex` are structs of src/lib.rt: the answer
--- without columns, and the index.
-use Rattle.std.specs.Prelude.{ℕ, cond, List}
+-- Document 02, Q-11: clocks, whole frames and blocks with lent columns. `ClockWithIndex` is a struct of src/lib.rt: the answer without columns, and
+-- the index.
+use Rattle.std.specs.Prelude.{ℕ, cond, List, Result}
+use Rattle.refusals.specs.declared.Refusal.{Refusal}
+use Rattle.refusals.specs.Refusals.{index_of}
 use Rattle.frame.specs.declared.Kind.{Kind}
 use Rattle.lent_columns.specs.declared.ColumnsAnswer.{ColumnsAnswer}
 use Rattle.lent_columns.specs.Check.{lent_columns, columns_answer, check_columns}
 use Rattle.lent_columns.specs.Frames.{unless_refused}
 use Rattle.receiver_state.specs.declared.Receiver.{Receiver}
 use Rattle.receiver_state.specs.WellFormed.{well_formed}
+use Rattle.receiver.specs.declared.Stepped.{Stepped}
 use Rattle.receiver.specs.declared.ClockAnswer.{ClockAnswer}
-use Rattle.receiver.specs.Clock.{refused_clock, clock_answer}
+use Rattle.receiver.specs.Clock.{refused_clock, clock_answer, clock_outcome}
 use Rattle.whole_frame.specs.WholeFrame.{receive_answer}
 use Rattle.whole_frame.specs.ByFormat.{receive_by_format}
-use Rattle.trace.specs.Block.{BlockDone, block_done, refused_block, run_block}
+use Rattle.trace.specs.declared.Running.{Running}
+use Rattle.trace.specs.Block.{BlockAnswer, BlockDone, block_done, refused_block, block_outcome, run_block}
 use Rattle.receiver_with_columns.specs.declared.ClockWithIndex.{ClockWithIndex}
-use Rattle.receiver_with_columns.specs.declared.BlockWithIndex.{BlockWithIndex}
 
 -- "Refusals: 27 not 40 numbers; 28 first bad column, its index told; both after 2 where a state is given, before all others."
 unfoldable pub refused_before : Receiver → List ℕ → ColumnsAnswer
 refused_before r table = cond (well_formed r) (check_columns table) (columns_answer 2 0)
-
--- an answer with the index beside it
-abbrev pub clock_with : ColumnsAnswer → (ℕ → ClockAnswer) → ClockWithIndex
-clock_with before answer = record { answer = answer before.refusal; index = before.index }
 
 -- the answer over the lent columns, unless it was refused before; with the index beside it
 abbrev pub unless_refused_clock : Receiver → List ℕ → ClockAnswer → ClockWithIndex
@@ -38,6 +37,18 @@ receive_with_columns r table kind number = unless_refused_clock r table (receive
 
 unfoldable pub receive_by_format_with_columns : Receiver → List ℕ → ℕ → ℕ → ClockWithIndex
 receive_by_format_with_columns r table format number = unless_refused_clock r table (receive_by_format (lent_columns table) r format number)
+
+-- what C is handed: the answer without columns, and the index that a refusal tells, 0 where it tells none
+abbrev pub clock_outcome_with : Receiver → Result Stepped Refusal → ClockWithIndex
+clock_outcome_with r given = record { answer = clock_outcome r given; index = index_of given }
+
+-- the same of a block
+pub record BlockWithIndex : Type 0 where
+  pub answer : BlockAnswer
+  pub index : ℕ
+
+abbrev pub block_outcome_with : Receiver → Result Running Refusal → BlockWithIndex
+block_outcome_with r given = record { answer = block_outcome r given; index = index_of given }
 
 -- what a block leaves and answers, and the index
 pub record BlockDoneWithIndex : Type 0 where

@@ -2,70 +2,43 @@
 // bytes may not be written, and what a write does to the core. Every function takes any number, byte
 // and core.
 //
+// A number stays a byte: frames and C hand it over as one, and the theorems speak of every number.
 // The core goes by value, like the state that it belongs to.
 #![tactic(auto)]
 
 ghost use Rattle.std.specs.Prelude.{◌≡◌};
 ghost use Rattle.register_map.specs.Map.{in_map, register_byte, read_only, without_setting, config_wrong};
-ghost use Rattle.register_map.specs.Change.{store_byte, set_config2, set_config3, clear_single, clear_double, clear_bunch, clear_event, after_write};
+ghost use Rattle.register_map.specs.Change.{store_byte, clear_bunch, clear_event, after_write};
 
 use fine_delay::has_setting;
 use receiver_state::Core;
 
 // Whether the number is in the map.
-#[tactic(auto, using(laws::proofs::Rules::picks), unfolding(crate::specs::Map::in_map, laws::specs::OneOf::one_of))]
+#[tactic(auto, unfolding(crate::specs::Map::in_map, laws::specs::OneOf::one_of))]
 pub fn in_map(number: u8) -> bool
     ensures { result ≡ in_map number }
 {
-    match number {
-        0 => true,
-        1 => true,
-        2 => true,
-        3 => true,
-        8 => true,
-        9 => true,
-        10 => true,
-        11 => true,
-        16 => true,
-        17 => true,
-        18 => true,
-        20 => true,
-        21 => true,
-        22 => true,
-        24 => true,
-        25 => true,
-        26 => true,
-        27 => true,
-        28 => true,
-        _ => false,
-    }
+    matches!(number, 0..=3 | 8..=11 | 16..=18 | 20..=22 | 24..=28)
 }
 
 // The IDs and the status.
+#[tactic(auto, unfolding(crate::specs::Map::read_only, laws::specs::OneOf::one_of))]
 pub fn read_only(number: u8) -> bool
     ensures { result ≡ read_only number }
 {
-    match number {
-        16 => true,
-        17 => true,
-        18 => true,
-        22 => true,
-        _ => false,
-    }
+    matches!(number, 16..=18 | 22)
 }
 
 // A byte for register 0 or 1 that belongs to no fine delay setting.
-#[tactic(auto, using(laws::proofs::Rules::picks), unfolding(crate::specs::Map::without_setting))]
+#[tactic(auto, unfolding(crate::specs::Map::without_setting))]
 pub fn without_setting(number: u8, byte: u8) -> bool
     ensures { result ≡ without_setting number byte }
 {
-    if number < 2 {
-        return !has_setting(byte);
-    }
-    false
+    number < 2 && !has_setting(byte)
 }
 
 // A Config byte that differs from the fresh one, 0x85 or 0xA7, in bits 6 to 0.
+#[tactic(auto, unfolding(crate::specs::Map::config_wrong))]
 pub fn config_wrong(number: u8, value: u8) -> bool
     ensures { result ≡ config_wrong number value }
 {
@@ -78,6 +51,7 @@ pub fn config_wrong(number: u8, value: u8) -> bool
 
 // The byte that a register holds, 0 where the number is not in the map. A counter shows its low byte
 // first.
+#[tactic(auto, unfolding(crate::specs::Map::register_byte))]
 pub fn register_byte(core: Core, number: u8) -> u8
     ensures { result ≡ register_byte core number }
 {
@@ -86,84 +60,48 @@ pub fn register_byte(core: Core, number: u8) -> u8
         1 => core.settings.fine2,
         2 => core.settings.coarse,
         3 => core.settings.control,
-        8 => (core.errors.single % 0x100) as u8,
-        9 => (core.errors.single / 0x100 % 0x100) as u8,
+        8 => core.errors.single.to_le_bytes()[0],
+        9 => core.errors.single.to_le_bytes()[1],
         10 => core.errors.double,
         11 => 0,
-        16 => (core.ids.id % 0x100) as u8,
-        17 => (core.ids.id / 0x100 % 0x100) as u8,
+        16 => core.ids.id.to_le_bytes()[0],
+        17 => core.ids.id.to_le_bytes()[1],
         18 => core.ids.i2c,
         20 => core.settings.config2,
         21 => core.settings.config3,
         22 => 0xC0 + core.errors.status5 % 2 * 0x20,
-        24 => (core.counters.bunch % 0x100) as u8,
-        25 => (core.counters.bunch / 0x100 % 0x100) as u8,
-        26 => (core.counters.event % 0x100) as u8,
-        27 => (core.counters.event / 0x100 % 0x100) as u8,
-        28 => (core.counters.event / 0x1_0000 % 0x100) as u8,
+        24 => core.counters.bunch.to_le_bytes()[0],
+        25 => core.counters.bunch.to_le_bytes()[1],
+        26 => core.counters.event.to_le_bytes()[0],
+        27 => core.counters.event.to_le_bytes()[1],
+        28 => core.counters.event.to_le_bytes()[2],
         _ => 0,
     }
 }
 
 // A byte goes to register 0, 1, 2 or 3; any other number changes nothing.
+#[tactic(auto, unfolding(crate::specs::Change::stored))]
 pub fn store_byte(number: u8, byte: u8, core: Core) -> Core
     ensures { result ≡ store_byte number byte core }
 {
-    let mut settings = core.settings;
     let mut next = core;
     match number {
-        0 => {
-            settings.fine1 = byte;
-            next.settings = settings;
-            next
-        }
-        1 => {
-            settings.fine2 = byte;
-            next.settings = settings;
-            next
-        }
-        2 => {
-            settings.coarse = byte;
-            next.settings = settings;
-            next
-        }
-        3 => {
-            settings.control = byte;
-            next.settings = settings;
-            next
-        }
-        _ => next,
+        0 => next.settings.fine1 = byte,
+        1 => next.settings.fine2 = byte,
+        2 => next.settings.coarse = byte,
+        3 => next.settings.control = byte,
+        _ => {}
     }
-}
-
-fn clear_single(core: Core) -> Core
-    ensures { result ≡ clear_single core }
-{
-    let mut errors = core.errors;
-    errors.single = 0;
-    let mut next = core;
-    next.errors = errors;
     next
 }
 
-fn clear_double(core: Core) -> Core
-    ensures { result ≡ clear_double core }
-{
-    let mut errors = core.errors;
-    errors.double = 0;
-    let mut next = core;
-    next.errors = errors;
-    next
-}
-
-// The bunch counter cleared, by a register write or by a broadcast.
+// The bunch counter cleared, by a register write or by a broadcast. Two functions, since
+// `ClearLaws` speaks of each.
 pub fn clear_bunch(core: Core) -> Core
     ensures { result ≡ clear_bunch core }
 {
-    let mut counters = core.counters;
-    counters.bunch = 0;
     let mut next = core;
-    next.counters = counters;
+    next.counters.bunch = 0;
     next
 }
 
@@ -171,54 +109,27 @@ pub fn clear_bunch(core: Core) -> Core
 pub fn clear_event(core: Core) -> Core
     ensures { result ≡ clear_event core }
 {
-    let mut counters = core.counters;
-    counters.event = 0;
     let mut next = core;
-    next.counters = counters;
-    next
-}
-
-fn set_config2(value: u8, core: Core) -> Core
-    ensures { result ≡ set_config2 value core }
-{
-    let mut settings = core.settings;
-    settings.config2 = value;
-    let mut next = core;
-    next.settings = settings;
-    next
-}
-
-fn set_config3(value: u8, core: Core) -> Core
-    ensures { result ≡ set_config3 value core }
-{
-    let mut settings = core.settings;
-    settings.config3 = value;
-    let mut next = core;
-    next.settings = settings;
+    next.counters.event = 0;
     next
 }
 
 // The core after a byte was written to a register. Which writes are refused is for `registers` to
 // say; here a number that is not in the map, or may not be written, changes nothing.
-#[tactic(auto, using(laws::proofs::Rules::picks), unfolding(crate::specs::Change::after_write))]
+#[tactic(auto, unfolding(crate::specs::Change::after_write))]
 pub fn write_byte(core: Core, number: u8, value: u8) -> Core
     ensures { result ≡ after_write core number value }
 {
-    if number < 4 {
-        return store_byte(number, value, core);
-    }
+    let mut next = core;
     match number {
-        8 => clear_single(core),
-        9 => clear_single(core),
-        10 => clear_double(core),
-        11 => core,
-        20 => set_config2(value, core),
-        21 => set_config3(value, core),
-        24 => clear_bunch(core),
-        25 => clear_bunch(core),
-        26 => clear_event(core),
-        27 => clear_event(core),
-        28 => clear_event(core),
-        _ => core,
+        0..=3 => next = store_byte(number, value, core),
+        8 | 9 => next.errors.single = 0,
+        10 => next.errors.double = 0,
+        20 => next.settings.config2 = value,
+        21 => next.settings.config3 = value,
+        24 | 25 => next = clear_bunch(core),
+        26..=28 => next = clear_event(core),
+        _ => {}
     }
+    next
 }

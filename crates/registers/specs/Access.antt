@@ -1,5 +1,7 @@
 -- Document 01, "Registers" and "Numbers of refusal", with document 02, Q-4: one register read, and one register write.
-use Rattle.std.specs.Prelude.{ℕ, cond, eqb}
+use Rattle.std.specs.Prelude.{ℕ, cond, eqb, Result, Ok, Err}
+use Rattle.refusals.specs.declared.Refusal.{Refusal}
+use Rattle.refusals.specs.Refusals.{number}
 use Rattle.receiver_state.specs.declared.Core.{Core}
 use Rattle.receiver_state.specs.declared.Receiver.{Receiver}
 use Rattle.receiver_state.specs.State.{receiver}
@@ -21,6 +23,11 @@ byte_answer refusal byte = record { refusal = refusal; byte = byte }
 -- "A refused call returns its number with all other result fields 0"
 abbrev pub refused_read : ℕ → ReadAnswer
 refused_read refusal = byte_answer refusal 0
+
+-- what C is handed: the number of refusal, and the byte, 0 where refused
+abbrev pub read_given : Result ℕ Refusal → ReadAnswer
+read_given (Ok byte) = byte_answer 0 byte
+read_given (Err refusal) = refused_read (number refusal)
 
 -- refusal 2, "state not well formed", "first"
 unfoldable pub read_answer : Receiver → ℕ → ReadAnswer
@@ -52,6 +59,11 @@ written_to r core = record { refusal = 0; receiver = receiver core r.held }
 -- "the state unchanged where one was given"
 abbrev pub refused_write : ℕ → Receiver → WriteAnswer
 refused_write refusal r = record { refusal = refusal; receiver = r }
+
+-- what C is handed: the number of refusal, and the state, as it came where refused
+abbrev pub write_given : Receiver → Result Receiver Refusal → WriteAnswer
+write_given r (Ok next) = record { refusal = 0; receiver = next }
+write_given r (Err refusal) = refused_write (number refusal) r
 
 -- refusal 2 "first"
 unfoldable pub write_answer : Receiver → ℕ → ℕ → WriteAnswer

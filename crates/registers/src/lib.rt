@@ -5,11 +5,14 @@
 #![tactic(auto)]
 
 ghost use Rattle.std.specs.Prelude.{◌≡◌};
-ghost use Rattle.registers.specs.Access.{read_refusal, refused_read, read_answer, write_refusal, refused_write, write_answer};
+ghost use Rattle.refusals.specs.Refusals.{number_of};
+ghost use Rattle.registers.specs.Access.{read_given, read_answer, write_refusal, write_given, write_answer};
 
 use receiver_state::{Receiver, well_formed};
+use refusals::{Refusal, number_of};
 use register_map::{config_wrong, in_map, read_only, register_byte, without_setting, write_byte};
 
+// What C is handed for a read: the number of refusal, and the byte.
 #[repr(C)]
 #[derive(Clone, Copy)]
 pub struct ReadAnswer {
@@ -17,6 +20,18 @@ pub struct ReadAnswer {
     pub byte: u8,
 }
 
+impl From<Result<u8, Refusal>> for ReadAnswer {
+    ghost from_gives = { λ given answer. answer ≡ read_given given };
+
+    fn from(given: Result<u8, Refusal>) -> ReadAnswer {
+        ReadAnswer {
+            refusal: number_of(given),
+            byte: given.unwrap_or(0),
+        }
+    }
+}
+
+// What C is handed for a write: the number of refusal, and the state.
 #[repr(C)]
 #[derive(Clone, Copy)]
 pub struct WriteAnswer {
@@ -24,78 +39,62 @@ pub struct WriteAnswer {
     pub receiver: Receiver,
 }
 
-fn read_refusal(number: u8) -> u8
-    ensures { result ≡ read_refusal number }
+// A refused write hands back the state as it came.
+#[inline(always)]
+pub fn write_given(receiver: Receiver, given: Result<Receiver, Refusal>) -> WriteAnswer
+    ensures { result ≡ write_given receiver given }
 {
-    if in_map(number) {
-        return 0;
+    WriteAnswer {
+        refusal: number_of(given),
+        receiver: given.unwrap_or(receiver),
     }
-    5
 }
 
-fn write_refusal(number: u8, value: u8) -> u8
-    ensures { result ≡ write_refusal number value }
+// Of a state that is well formed: which write is refused.
+#[tactic(auto, unfolding(crate::specs::Access::write_refusal, refusals::specs::Refusals::number))]
+fn check_write(number: u8, value: u8) -> Result<(), Refusal>
+    ensures { number_of result ≡ write_refusal number value }
 {
     if !in_map(number) {
-        return 5;
+        Err(Refusal::Register)
+    } else if read_only(number) {
+        Err(Refusal::ReadOnly)
+    } else if without_setting(number, value) {
+        Err(Refusal::NoSetting)
+    } else if config_wrong(number, value) {
+        Err(Refusal::Config)
+    } else {
+        Ok(())
     }
-    if read_only(number) {
-        return 6;
-    }
-    if without_setting(number, value) {
-        return 17;
-    }
-    if config_wrong(number, value) {
-        return 7;
-    }
-    0
-}
-
-// A refused read: the byte is 0.
-fn refuse_read(refusal: u8) -> ReadAnswer
-    ensures { result ≡ refused_read refusal }
-{
-    ReadAnswer { refusal, byte: 0 }
-}
-
-// A refused write: the state as it came.
-fn refuse_write(refusal: u8, receiver: Receiver) -> WriteAnswer
-    ensures { result ≡ refused_write refusal receiver }
-{
-    WriteAnswer { refusal, receiver }
 }
 
 // The byte that a register holds.
-pub fn read(receiver: Receiver, number: u8) -> ReadAnswer
-    ensures { result ≡ read_answer receiver number }
+#[inline(always)]
+#[tactic(auto, unfolding(crate::specs::Access::read_answer, crate::specs::Access::read_refusal, refusals::specs::Refusals::number))]
+pub fn read(receiver: Receiver, number: u8) -> Result<u8, Refusal>
+    ensures { read_given result ≡ read_answer receiver number }
 {
     if !well_formed(receiver) {
-        return refuse_read(2);
+        Err(Refusal::State)
+    } else if in_map(number) {
+        Ok(register_byte(receiver.core, number))
+    } else {
+        Err(Refusal::Register)
     }
-    let refusal = read_refusal(number);
-    if refusal != 0 {
-        return refuse_read(refusal);
-    }
-    let byte = register_byte(receiver.core, number);
-    ReadAnswer { refusal: 0, byte }
 }
 
 // The state after a byte was written to a register.
-pub fn write(receiver: Receiver, number: u8, value: u8) -> WriteAnswer
-    ensures { result ≡ write_answer receiver number value }
+#[inline(always)]
+#[tactic(auto, using(refusals::proofs::Laws::none_is_success), unfolding(crate::specs::Access::write_answer, refusals::specs::Refusals::number))]
+pub fn write(receiver: Receiver, number: u8, value: u8) -> Result<Receiver, Refusal>
+    ensures { write_given receiver result ≡ write_answer receiver number value }
 {
     if !well_formed(receiver) {
-        return refuse_write(2, receiver);
+        return Err(Refusal::State);
     }
-    let refusal = write_refusal(number, value);
-    if refusal != 0 {
-        return refuse_write(refusal, receiver);
-    }
-    let core = write_byte(receiver.core, number, value);
-    let mut next = receiver;
-    next.core = core;
-    WriteAnswer {
-        refusal: 0,
-        receiver: next,
-    }
+    check_write(number, value)?;
+    Ok(Receiver {
+        core: write_byte(receiver.core, number, value),
+        ..receiver
+    })
 }

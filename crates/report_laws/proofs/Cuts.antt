@@ -12,7 +12,9 @@ use lib.Seq.{take-append_seam, drop-append_seam, take-take, take-add, take_all}
 use Rattle.laws.proofs.Rules.{picked_by, by_test}
 use Rattle.frame.specs.declared.Kind.{Kind}
 use Rattle.receiver_state.specs.declared.Receiver.{Receiver}
-use Rattle.stored_line.specs.declared.StoredLine.{StoredLine}
+use Rattle.std.specs.Prelude.{Result}
+use Rattle.refusals.specs.declared.Refusal.{Refusal}
+use Rattle.stored_line.specs.declared.StoredFrame.{StoredFrame}
 use Rattle.stored_line.specs.Read.{read_line}
 use Rattle.line_report.specs.declared.LinePart.{LinePart}
 use Rattle.line_report.specs.declared.Report.{Report}
@@ -168,7 +170,7 @@ module _ (columns : Kind → List ℕ) where
   end_lines now (character ∷ characters) h =
       let line = character ∷ characters in
       rw (ne_eqb now.part.count 0 (some_characters now.part character characters h))
-      (ap (λ (read : StoredLine). line_end_prints columns now read ++ core_end_text (line_ended columns now read).receiver.core) (holds_read now.part line h))
+      (ap (λ (read : Result StoredFrame Refusal). line_end_prints columns now read ++ core_end_text (line_ended columns now read).receiver.core) (holds_read now.part line h))
 
   feed_lines : (now : Report) (line bytes : List ℕ) (rest : List ℕ) → Holds now.part line
       → rest ≡ lines_print columns (line_ended columns now (read_part now.part)).receiver (next_line now.lines) (lines_after [] bytes)
@@ -176,7 +178,7 @@ module _ (columns : Kind → List ℕ) where
   unfolding lines_print
   feed_lines now line bytes rest h e =
       ap (λ (text : List ℕ). line_end_prints columns now (read_part now.part) ++ text) e
-      ∙ ap (λ (read : StoredLine). line_prints columns now.receiver now.lines read
+      ∙ ap (λ (read : Result StoredFrame Refusal). line_prints columns now.receiver now.lines read
       ++ lines_print columns (after_line columns now.receiver read) (next_line now.lines) (lines_after [] bytes)) (holds_read now.part line h)
 
   -- a line feed, and any other byte
@@ -269,7 +271,7 @@ module _ (columns : Kind → List ℕ) where
   end_leaves now [] h = rw (eq-eqb now.part.count 0 (no_characters_lem now.part h)) refl
   end_leaves now (character ∷ characters) h =
       rw (ne_eqb now.part.count 0 (some_characters now.part character characters h))
-      (ap (λ (read : StoredLine). after_line columns now.receiver read) (holds_read now.part (character ∷ characters) h))
+      (ap (λ (read : Result StoredFrame Refusal). after_line columns now.receiver read) (holds_read now.part (character ∷ characters) h))
 
   abbrev leaves_on : Report → List ℕ → Receiver
   leaves_on now input = (after_last columns (after_bytes columns now input)).receiver
@@ -299,7 +301,7 @@ module _ (columns : Kind → List ℕ) where
       ∙ by_test (eqb byte 10)
       (λ t. ap (λ (r : Report). leaves_on r bytes) (feed_after now byte line bytes t)
       ∙ from_next
-      ∙ ap (λ (read : StoredLine). lines_leave columns (after_line columns now.receiver read) (lines_after [] bytes)) (holds_read now.part line h)
+      ∙ ap (λ (read : Result StoredFrame Refusal). lines_leave columns (after_line columns now.receiver read) (lines_after [] bytes)) (holds_read now.part line h)
       ∙ line_left now.receiver line (lines_after [] bytes)
       ∙ ap (lines_leave columns now.receiver) (sym (feed_splits now byte line bytes t)))
       (λ t. ap (λ (r : Report). leaves_on r bytes) (other_after now byte line bytes t)

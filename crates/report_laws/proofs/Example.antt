@@ -36,10 +36,13 @@ use Rattle.receiver.specs.declared.ClockAnswer.{ClockAnswer}
 use Rattle.receiver.specs.Clock.{clocked_answer, refused_clock}
 use Rattle.whole_frame.specs.WholeFrame.{settled_clock}
 use Rattle.whole_frame.proofs.WholeFrameLaw.{receiver_whole_frames}
-use Rattle.stored_line.specs.declared.StoredLine.{StoredLine}
-use Rattle.stored_line.specs.declared.StoredLine.TheVariants.{Frame, Refused}
+use Rattle.std.specs.Prelude.{Result, Ok, Err}
+use Rattle.refusals.specs.declared.Refusal.{Refusal}
+use Rattle.refusals.specs.declared.Refusal.TheVariants.{Frame}
+use Rattle.refusals.specs.Refusals.{number}
+use Rattle.stored_line.specs.declared.StoredFrame.{StoredFrame}
 use Rattle.stored_line.specs.Digits.{digit_value, all_digits, hex_number, hex_answer, digit_character, hex_digits}
-use Rattle.stored_line.specs.Read.{read_line}
+use Rattle.stored_line.specs.Read.{stored_frame, read_line}
 use Rattle.line_report.specs.Text.{decimal_up_to, decimal, kind_digits, word_digits, prints_dash, word_text, prints_place, place_text, verdict_text, refusal_text, answer_text, line_text, counts_text, end_text}
 use Rattle.line_report.specs.Output.{lines_after, feed_line, ones_sent, after_line, next_line, lines_print, output_of}
 use Rattle.report_laws.specs.Example.{ended_lines, line1, line2, line3, line4, line5, line6, line7, line8, example_lines, text1, text2, text3, text4, text5, text6, text7, text8, text9, ExampleOutput}
@@ -72,13 +75,13 @@ cut (line ∷ lines) e =
 
 -- ---- one line
 
-line_answer_lem : (r : Receiver) (lines : ℕ) (characters : List ℕ) (rest : List (List ℕ)) (line : StoredLine) (answer : ClockAnswer)
+line_answer_lem : (r : Receiver) (lines : ℕ) (characters : List ℕ) (rest : List (List ℕ)) (line : Result StoredFrame Refusal) (answer : ClockAnswer)
     → read_line characters ≡ line → feed_line columns_of r line ≡ answer
     → lines_print columns_of r lines (characters ∷ rest)
     ≡ line_text (next_line lines) (word_digits line) answer ++ lines_print columns_of (ones_sent columns_of answer) (next_line lines) rest
 unfolding lines_print
 line_answer_lem r lines characters rest line answer e f =
-    ap (λ (l : StoredLine). line_text (next_line lines) (word_digits l) (feed_line columns_of r l) ++ lines_print columns_of (after_line columns_of r l) (next_line lines) rest) e
+    ap (λ (l : Result StoredFrame Refusal). line_text (next_line lines) (word_digits l) (feed_line columns_of r l) ++ lines_print columns_of (after_line columns_of r l) (next_line lines) rest) e
     ∙ ap (λ (a : ClockAnswer). line_text (next_line lines) (word_digits line) a ++ lines_print columns_of (ones_sent columns_of a) (next_line lines) rest) f
 
 -- the state between two lines
@@ -90,7 +93,7 @@ clocked after shown = record { core = after; outputs = shown }
 
 -- a line with a frame: what is computed of it. The frame leaves `held` and this core; `after` is the core after the ones that may follow.
 record FrameLine (core : Core) (lines : ℕ) (characters : List ℕ) (kind : Kind) (number : ℕ) (held : Held) (left : Core) (shown : Outputs) (after : Core) (text : List ℕ) : Type 0 where
-  reads : read_line characters ≡ Frame kind number
+  reads : read_line characters ≡ Ok (stored_frame kind number)
   is_a_frame : is_frame kind number ≡ true
   is_well_formed : well_formed (waiting core) ≡ true
   done : finished_by columns_of kind number (settled_clock (frame_bits kind) core) ≡ clocked left shown
@@ -103,7 +106,7 @@ frame_line : {core : Core} {lines : ℕ} {characters : List ℕ} {kind : Kind} {
     → lines_print columns_of (waiting core) lines (characters ∷ rest) ≡ (text ++ (10 ∷ [])) ++ lines_print columns_of (waiting after) (next_line lines) rest
 frame_line {core} {lines} {characters} {kind} {number} {held} {left} {shown} {after} {text} l rest =
     let answer = clocked_answer held (clocked left shown) in
-    line_answer_lem (waiting core) lines characters rest (Frame kind number) answer l.reads
+    line_answer_lem (waiting core) lines characters rest (Ok (stored_frame kind number)) answer l.reads
     (receiver_whole_frames.sent_frame_finishes (waiting core) kind number l.is_well_formed (waits_none core) l.is_a_frame ∙ ap₂ clocked_answer l.leaves l.done)
     ∙ ap₂ (λ (t : List ℕ) (r : Receiver). t ++ lines_print columns_of r (next_line lines) rest) l.prints l.ones
 
@@ -140,7 +143,7 @@ record EightLines : Type 0 where
   fifth : Line (having 0 1 2 1 89) 4 line5 Long 0x100150235AD (having 0x35 1 2 1 131) (showing 2 0 0 0x00150235) text5
   sixth : Line (having 0x35 1 2 1 131) 5 line6 Long 0x180150235AD (having 0x35 2 2 1 173) (showing 2 1 1 0x00150235) text6
   seventh : Line (having 0x35 2 2 1 173) 6 line7 Long 0x100190235B5 (having 0x35 2 2 1 215) (showing 5 0 0 0x00190235) text7
-  eighth_reads : read_line line8 ≡ Refused 12
+  eighth_reads : read_line line8 ≡ Err Frame
   eighth_prints : line_text 8 0 (refused_clock 12 (waiting (having 0x35 2 2 1 215))) ≡ text8 ++ (10 ∷ [])
   no_ones : ones_sent columns_of (refused_clock 12 (waiting (having 0x35 2 2 1 215))) ≡ waiting (having 0x35 2 2 1 215)
   end_prints_lem : lines_print columns_of (waiting (having 0x35 2 2 1 215)) 8 [] ≡ text9 ++ (10 ∷ [])
@@ -173,9 +176,10 @@ then_lines : (text : List ℕ) {rest output : List ℕ} → rest ≡ output → 
 then_lines text e = ap (λ (rest : List ℕ). (text ++ (10 ∷ [])) ++ rest) e
 
 last_lines : lines_print columns_of (waiting (having 0x35 2 2 1 215)) 7 (line8 ∷ []) ≡ ended_lines (text8 ∷ text9 ∷ [])
+unfolding number
 last_lines =
     let r = waiting (having 0x35 2 2 1 215) in
-    line_answer_lem r 7 line8 [] (Refused 12) (refused_clock 12 r) eight_lines.eighth_reads refl
+    line_answer_lem r 7 line8 [] (Err Frame) (refused_clock 12 r) eight_lines.eighth_reads refl
     ∙ ap₂ (λ (t : List ℕ) (x : Receiver). t ++ lines_print columns_of x 8 []) eight_lines.eighth_prints eight_lines.no_ones
     ∙ then_lines text8 eight_lines.end_prints_lem
 

@@ -6,15 +6,26 @@ use Prim.Native.Nat.{ℕ, zero, suc, ◌+◌, ◌-◌, ◌*◌, ◌/◌, ◌%◌
 use native.Mathlib.Nat.{pow-suc, pow-le-pow_right, lt_of_lt_of_le, le_of_suc-le-suc, not-suc-le-zero, add-mul, mul_assoc, mul_comm, add_assoc, le_trans}
 use native.Mathlib.Numerals.{add-one, sub-one}
 use native.Mathlib.Omega.{arith}
-use borrow.Author.Tests.{lt-ltb, le-ltb, leb-true}
-use lib.Dec.{leb}
+use borrow.Author.Tests.{lt-ltb, le-ltb, ltb-true, ltb-false}
 use lib.ListN.{length, get_or, drop, set, drop_of_length-le, length-append}
 use lib.Seq.{drop-cons, drop-set-lt, get_or-set_same, lt-length-set, append_snoc}
-use Rattle.laws.proofs.Tests.{both}
-use Rattle.stored_line.specs.Digits.{between, digit_value, digit_character, all_digits, hex_number, hex_digits}
+use Rattle.std.specs.Prelude.{Option, Some, None}
+use Rattle.laws.proofs.Rules.{picked_by}
+use Rattle.stored_line.specs.Digits.{digit_value, is_digit, digit_answer, digit_character, all_digits, hex_number, hex_digits}
 
-pub between_low : (low character high : ℕ) → between low character high ≡ true → low ≤ character
-between_low low character high e = leb-true low character (both (leb low character) (leb character high) e).0
+-- ---- a digit read
+
+-- what the answer says of a character
+abbrev pub Told : ℕ → Option ℕ → Type 0
+Told character (Some digit) = (digit ≡ digit_value character) × (digit ≤ 15)
+Told character None = 15 < digit_value character
+
+pub told : (character : ℕ) (answer : Option ℕ) → answer ≡ digit_answer character → Told character answer
+told character answer e =
+    rw e
+    (picked_by (Told character) (is_digit character)
+    (λ t. let below : digit_value character < 16 = ltb-true (digit_value character) 16 t in (refl, omega arith))
+    (λ t. let none : 16 ≤ digit_value character = ltb-false (digit_value character) 16 t in omega arith))
 
 -- ---- the number read, gathered so far and still to come
 
@@ -48,9 +59,9 @@ pub digits_on : (cs : List ℕ) (at value : ℕ) → at < length cs → value �
 unfolding all_digits
 digits_on cs at value h e l = rw (add-one, drop-cons cs at 0 h, lt-ltb (digit_value (get_or cs at 0)) 16 (omega arith))
 
-pub digits_off : (cs : List ℕ) (at value : ℕ) → at < length cs → value ≡ digit_value (get_or cs at 0) → 15 < value → all_digits (drop at cs) ≡ false
+pub digits_off : (cs : List ℕ) (at : ℕ) → at < length cs → 15 < digit_value (get_or cs at 0) → all_digits (drop at cs) ≡ false
 unfolding all_digits
-digits_off cs at value h e l = rw (drop-cons cs at 0 h, le-ltb (digit_value (get_or cs at 0)) 16 (omega arith))
+digits_off cs at h l = rw (drop-cons cs at 0 h, le-ltb (digit_value (get_or cs at 0)) 16 (omega arith))
 
 pub digits_end : (cs : List ℕ) (at : ℕ) → length cs ≤ at → all_digits (drop at cs) ≡ true
 unfolding all_digits

@@ -14,9 +14,11 @@ use Rattle.laws.proofs.Below.{below}
 use Rattle.frame.specs.declared.Kind.{Kind}
 use Rattle.frame.specs.declared.Kind.TheVariants.{Short, Long}
 use Rattle.frame.specs.Numbers.{is_frame}
-use Rattle.stored_line.specs.declared.StoredLine.TheVariants.{Frame, Refused}
+use Rattle.std.specs.Prelude.{Ok, Err}
+use Rattle.refusals.specs.declared.Refusal.TheVariants.{LineLength, Character, Frame}
+use Rattle.refusals.specs.Refusals.{number}
 use Rattle.stored_line.specs.Digits.{between, digit_value, is_digit, all_digits, hex_number, hex_answer, digit_character, hex_digits}
-use Rattle.stored_line.specs.Read.{read_line}
+use Rattle.stored_line.specs.Read.{stored_frame, read_line}
 use Rattle.stored_line.specs.Write.{write_done, write_line}
 use Rattle.stored_line.specs.Laws.{Between, Capital, Digit, Each, DigitLaws, NumberLaws, HasLength, LineReadLaws, TooSmall, LineWriteLaws}
 use Rattle.stored_line.proofs.ReadWritten.{number_snoc}
@@ -114,28 +116,29 @@ each_digit (character ∷ characters) e =
 some_other : (characters : List ℕ) → (Each Digit characters → ⊥) → all_digits characters ≡ false
 some_other characters n = by_test (all_digits characters) (λ t. absurd (n (each_digit characters t))) (λ t. t)
 
-refused_by_10 : (characters : List ℕ) → length characters ≢ 4 → length characters ≢ 11 → read_line characters ≡ Refused 10
+refused_by_10 : (characters : List ℕ) → length characters ≢ 4 → length characters ≢ 11 → read_line characters ≡ Err LineLength
 unfolding read_line
 refused_by_10 characters a b = rw (ne_eqb (length characters) 4 a, ne_eqb (length characters) 11 b)
 
-refused_by_11 : (kind : Kind) (characters : List ℕ) → HasLength kind characters → (Each Digit characters → ⊥) → read_line characters ≡ Refused 11
+refused_by_11 : (kind : Kind) (characters : List ℕ) → HasLength kind characters → (Each Digit characters → ⊥) → read_line characters ≡ Err Character
 unfolding read_line hex_answer
 refused_by_11 Short characters l n = rw (l, some_other characters n)
 refused_by_11 Long characters l n = rw (l, some_other characters n)
 
 refused_by_12 : (kind : Kind) (characters : List ℕ) → HasLength kind characters → Each Digit characters → is_frame kind (hex_number characters) ≡ false
-    → read_line characters ≡ Refused 12
+    → read_line characters ≡ Err Frame
 unfolding read_line hex_answer
 refused_by_12 Short characters l each e = rw (l, all_digits_lem characters each, e)
 refused_by_12 Long characters l each e = rw (l, all_digits_lem characters each, e)
 
 accepted : (kind : Kind) (characters : List ℕ) → HasLength kind characters → Each Digit characters → is_frame kind (hex_number characters) ≡ true
-    → read_line characters ≡ Frame kind (hex_number characters)
+    → read_line characters ≡ Ok (stored_frame kind (hex_number characters))
 unfolding read_line hex_answer
 accepted Short characters l each e = rw (l, all_digits_lem characters each, e)
 accepted Long characters l each e = rw (l, all_digits_lem characters each, e)
 
 pub line_read_laws : LineReadLaws
+unfolding number
 line_read_laws =
     record {
       refused_by_10 = refused_by_10;
@@ -143,6 +146,7 @@ line_read_laws =
       refused_by_12 = refused_by_12;
       accepted = accepted;
       refusal_is = λ refusal. refl;
+      numbers = (refl, refl, refl);
       short_is = λ number. refl;
       long_is = λ number. refl;
     }

@@ -1,4 +1,3 @@
 pub mod Digits
 pub mod ReadWritten
-pub mod Refusals
 pub mod Laws

@@ -15,10 +15,9 @@ use Rattle.laws.proofs.Below.{below}
 use Rattle.frame.specs.declared.Kind.{Kind}
 use Rattle.frame.specs.declared.Kind.TheVariants.{Short, Long}
 use Rattle.frame.specs.Numbers.{is_frame}
-use Rattle.stored_line.specs.declared.Hex.TheVariants.{Number}
-use Rattle.stored_line.specs.declared.StoredLine.TheVariants.{Frame}
+use Rattle.std.specs.Prelude.{Some, Ok}
 use Rattle.stored_line.specs.Digits.{digit_value, is_digit, all_digits, hex_number, hex_answer, digit_character, hex_digits}
-use Rattle.stored_line.specs.Read.{digit_count, read_line}
+use Rattle.stored_line.specs.Read.{digit_count, stored_frame, read_line}
 use Rattle.stored_line.specs.Write.{line_of, line_length, write_line}
 use Rattle.stored_line.specs.ReadWritten.{ReadWritten}
 use Rattle.stored_line.proofs.Digits.{length_digits}
@@ -80,11 +79,11 @@ fits_line Long number e = let h : number / 2 ^ 40 ≡ 1 = eqb-true (number / 2 ^
 
 -- ---- the line
 
-spelt : (kind : Kind) (number : ℕ) → is_frame kind number ≡ true → hex_answer (hex_digits (digit_count kind) number) ≡ Number number
+spelt : (kind : Kind) (number : ℕ) → is_frame kind number ≡ true → hex_answer (hex_digits (digit_count kind) number) ≡ Some number
 unfolding hex_answer
-spelt kind number e = rw (all_digits_lem (digit_count kind) number) (ap Number (number_back (digit_count kind) number (fits_line kind number e)))
+spelt kind number e = rw (all_digits_lem (digit_count kind) number) (ap Some (number_back (digit_count kind) number (fits_line kind number e)))
 
-read_digits : (kind : Kind) (number : ℕ) → is_frame kind number ≡ true → read_line (hex_digits (digit_count kind) number) ≡ Frame kind number
+read_digits : (kind : Kind) (number : ℕ) → is_frame kind number ≡ true → read_line (hex_digits (digit_count kind) number) ≡ Ok (stored_frame kind number)
 unfolding read_line
 read_digits Short number e = rw (length_digits 4 number, spelt Short number e, e)
 read_digits Long number e = rw (length_digits 11 number, spelt Long number e, e)

@@ -1,7 +1,5 @@
--- Document 01, "Stored lines": hexadecimal digits. `Hex` is an enum of src/lib.rt.
-use Rattle.std.specs.Prelude.{ℕ, zero, suc, ◌+◌, ◌-◌, ◌*◌, ◌/◌, ◌%◌, ◌^◌, Bool, true, ◌&&◌, cond, List, [], ◌∷◌, ◌++◌, ltb, leb, length, drop}
-use Rattle.stored_line.specs.declared.Hex.{Hex}
-use Rattle.stored_line.specs.declared.Hex.TheVariants.{Number, NoDigit}
+-- Document 01, "Stored lines": hexadecimal digits.
+use Rattle.std.specs.Prelude.{ℕ, zero, suc, ◌+◌, ◌-◌, ◌*◌, ◌/◌, ◌%◌, ◌^◌, Bool, true, ◌&&◌, cond, List, [], ◌∷◌, ◌++◌, ltb, leb, length, drop, Option, Some, None}
 
 abbrev pub between : ℕ → ℕ → ℕ → Bool
 between low character high = leb low character && leb character high
@@ -16,6 +14,10 @@ digit_value character =
 abbrev pub is_digit : ℕ → Bool
 is_digit character = ltb (digit_value character) 16
 
+-- the value of a digit, unless the character is none
+abbrev pub digit_answer : ℕ → Option ℕ
+digit_answer character = cond (is_digit character) (Some (digit_value character)) None
+
 -- every character is a digit
 unfoldable pub all_digits : List ℕ → Bool
 all_digits [] = true
@@ -27,8 +29,8 @@ hex_number [] = 0
 hex_number (character ∷ characters) = digit_value character * 16 ^ length characters + hex_number characters
 
 -- what characters spell, unless one of them is no digit
-unfoldable pub hex_answer : List ℕ → Hex
-hex_answer characters = cond (all_digits characters) (Number (hex_number characters)) NoDigit
+unfoldable pub hex_answer : List ℕ → Option ℕ
+hex_answer characters = cond (all_digits characters) (Some (hex_number characters)) None
 
 -- "A written line has capitals"
 unfoldable pub digit_character : ℕ → ℕ

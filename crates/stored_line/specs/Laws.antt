@@ -1,12 +1,14 @@
 -- Document 01, "Stored lines" and "Numbers of refusal": which lines the reader refuses and what the writer refuses, each exactly and in order.
 -- Proved in proofs/Laws.antt.
-use Rattle.std.specs.Prelude.{ℕ, ◌+◌, ◌*◌, ◌^◌, ◌≤◌, ◌<◌, ◌≡◌, ◌≢◌, ◌⊎◌, ◌↔◌, true, false, List, [], ◌∷◌, ◌++◌, length, drop}
+use Rattle.std.specs.Prelude.{ℕ, ◌+◌, ◌*◌, ◌^◌, ◌≤◌, ◌<◌, ◌≡◌, ◌≢◌, ◌⊎◌, ◌↔◌, true, false, List, [], ◌∷◌, ◌++◌, length, drop, Ok, Err}
 use Rattle.frame.specs.declared.Kind.{Kind}
 use Rattle.frame.specs.declared.Kind.TheVariants.{Short, Long}
 use Rattle.frame.specs.Numbers.{is_frame}
-use Rattle.stored_line.specs.declared.StoredLine.TheVariants.{Frame, Refused}
+use Rattle.refusals.specs.declared.Refusal.{Refusal}
+use Rattle.refusals.specs.declared.Refusal.TheVariants.{LineLength, Character, Frame}
+use Rattle.refusals.specs.Refusals.{number}
 use Rattle.stored_line.specs.Digits.{digit_value, hex_number, hex_digits}
-use Rattle.stored_line.specs.Read.{read_line, line_answer}
+use Rattle.stored_line.specs.Read.{stored_frame, read_line, line_answer}
 use Rattle.stored_line.specs.Write.{write_done, write_line}
 
 -- ---- digits
@@ -57,18 +59,19 @@ HasLength Long characters = length characters ≡ 11
 -- every line has one of these four answers
 pub record LineReadLaws : Type 0 where
   -- 10, "line not 4 or 11 characters", "first"
-  pub refused_by_10 : (characters : List ℕ) → length characters ≢ 4 → length characters ≢ 11 → read_line characters ≡ Refused 10
+  pub refused_by_10 : (characters : List ℕ) → length characters ≢ 4 → length characters ≢ 11 → read_line characters ≡ Err LineLength
   -- 11, "character not 0-9, A-F, a-f", "after 10"
-  pub refused_by_11 : (kind : Kind) (characters : List ℕ) → HasLength kind characters → (Each Digit characters → ⊥) → read_line characters ≡ Refused 11
+  pub refused_by_11 : (kind : Kind) (characters : List ℕ) → HasLength kind characters → (Each Digit characters → ⊥) → read_line characters ≡ Err Character
   -- 12, "start, format or leading bits wrong for the length", "after 11"
   pub refused_by_12 : (kind : Kind) (characters : List ℕ) → HasLength kind characters → Each Digit characters → is_frame kind (hex_number characters) ≡ false
-      → read_line characters ≡ Refused 12
+      → read_line characters ≡ Err Frame
   pub accepted : (kind : Kind) (characters : List ℕ) → HasLength kind characters → Each Digit characters → is_frame kind (hex_number characters) ≡ true
-      → read_line characters ≡ Frame kind (hex_number characters)
+      → read_line characters ≡ Ok (stored_frame kind (hex_number characters))
   -- "A refused call returns its number with all other result fields 0"; "Success is number 0", and the kind is its format bit
-  pub refusal_is : (refusal : ℕ) → line_answer (Refused refusal) ≡ record { refusal = refusal; kind = 0; number = 0 }
-  pub short_is : (number : ℕ) → line_answer (Frame Short number) ≡ record { refusal = 0; kind = 0; number = number }
-  pub long_is : (number : ℕ) → line_answer (Frame Long number) ≡ record { refusal = 0; kind = 1; number = number }
+  pub refusal_is : (refusal : Refusal) → line_answer (Err refusal) ≡ record { refusal = number refusal; kind = 0; number = 0 }
+  pub numbers : (number LineLength ≡ 10) × (number Character ≡ 11) × (number Frame ≡ 12)
+  pub short_is : (number : ℕ) → line_answer (Ok (stored_frame Short number)) ≡ record { refusal = 0; kind = 0; number = number }
+  pub long_is : (number : ℕ) → line_answer (Ok (stored_frame Long number)) ≡ record { refusal = 0; kind = 1; number = number }
 
 -- ---- the writer
 

@@ -1,10 +1,17 @@
 -- Document 01, "Stored lines" and "Numbers of refusal": the writer of a line. `Written` is a struct of src/lib.rt.
-use Rattle.std.specs.Prelude.{ℕ, suc, cond, List, [], ◌∷◌, ◌++◌, ltb, length, drop}
+use Rattle.std.specs.Prelude.{ℕ, suc, cond, List, [], ◌∷◌, ◌++◌, ltb, length, drop, Result, Ok, Err}
 use Rattle.frame.specs.declared.Kind.{Kind}
 use Rattle.frame.specs.Numbers.{is_frame}
+use Rattle.refusals.specs.declared.Refusal.{Refusal}
+use Rattle.refusals.specs.Refusals.{number}
 use Rattle.stored_line.specs.declared.Written.{Written}
 use Rattle.stored_line.specs.Digits.{hex_digits}
 use Rattle.stored_line.specs.Read.{digit_count}
+
+-- what C is handed: the number of refusal, and how many bytes were written, 0 where refused
+abbrev pub written_answer : Result ℕ Refusal → Written
+written_answer (Ok size) = record { refusal = 0; size = size }
+written_answer (Err refusal) = record { refusal = number refusal; size = 0 }
 
 -- what the writer answers, and what the whole lent buffer then holds
 pub record WriteDone : Type 0 where

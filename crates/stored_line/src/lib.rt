@@ -4,22 +4,23 @@
 // own, lent to be written.
 #![tactic(auto)]
 
-ghost use Rattle.std.specs.Prelude.{◌≡◌, true, ◌≤◌, ◌<◌, ◌++◌, length, drop};
-ghost use Rattle.stored_line.specs.declared.StoredLine.TheVariants.{Frame};
-ghost use Rattle.stored_line.specs.Digits.{between, digit_value, digit_character, hex_digits, hex_answer, hex_written};
+ghost use Rattle.std.specs.Prelude.{◌≡◌, ◌≤◌, ◌<◌, ◌++◌, length, drop};
+ghost use Rattle.frame.specs.Numbers.{format_bit};
+ghost use Rattle.stored_line.specs.Digits.{digit_answer, digit_character, hex_digits, hex_answer, hex_written};
 ghost use Rattle.stored_line.specs.Read.{digit_count, read_as, read_line, line_answer};
-ghost use Rattle.stored_line.specs.Write.{write_done, write_line};
+ghost use Rattle.stored_line.specs.Write.{written_answer, write_done, write_line};
 
 use frame::{Kind, is_frame};
+use refusals::Refusal;
 
-// What the reader answers: a frame, or the number of refusal.
-#[derive(Clone, Copy)]
-pub enum StoredLine {
-    Frame { kind: Kind, number: u64 },
-    Refused { refusal: u8 },
+// A frame as a line has it.
+#[derive(Clone, Copy, Debug, PartialEq, Eq)]
+pub struct StoredFrame {
+    pub kind: Kind,
+    pub number: u64,
 }
 
-// The same in the paper's numbers; the kind is the format bit.
+// What C is told of a line: the number of refusal, and the frame, whose kind is the format bit.
 #[repr(C)]
 #[derive(Clone, Copy)]
 pub struct LineAnswer {
@@ -28,7 +29,7 @@ pub struct LineAnswer {
     pub number: u64,
 }
 
-// What the writer answers: the number of refusal, and how many bytes were written.
+// What C is told of a written line: the number of refusal, and how many bytes were written.
 #[repr(C)]
 #[derive(Clone, Copy)]
 pub struct Written {
@@ -36,56 +37,33 @@ pub struct Written {
     pub size: u8,
 }
 
-// What characters spell in hexadecimal, unless one of them is no digit.
-#[derive(Clone, Copy)]
-enum Hex {
-    Number(u64),
-    NoDigit,
-}
-
-fn is_between(low: u8, character: u8, high: u8) -> bool
-    ensures { result ≡ between low character high }
+// The value of a hexadecimal digit.
+#[tactic(auto, unfolding(crate::specs::Digits::digit_value))]
+fn digit_value(character: u8) -> Option<u8>
+    ensures { result ≡ digit_answer character }
 {
-    low <= character && character <= high
+    match character {
+        b'0'..=b'9' => Some(character - b'0'),
+        b'A'..=b'F' => Some(character - b'A' + 10),
+        b'a'..=b'f' => Some(character - b'a' + 10),
+        _ => None,
+    }
 }
 
-// The value of a digit; 16 for a character that is none.
-fn digit_value(character: u8) -> u8
-    ensures { result ≡ digit_value character }
-{
-    if is_between(b'0', character, b'9') {
-        return character - b'0';
-    }
-    if is_between(b'A', character, b'F') {
-        return character - b'A' + 10;
-    }
-    if is_between(b'a', character, b'f') {
-        return character - b'a' + 10;
-    }
-    16
-}
-
-// A line has at most 11 digits, so its number fits.
-fn hex_number(characters: &[u8]) -> Hex
+// What characters spell, unless one of them is no digit. A line has at most 11, so its number fits.
+fn hex_number(characters: &[u8]) -> Option<u64>
     requires { length characters.now ≤ 11 }
     ensures { result ≡ hex_answer characters.now }
 {
-    let mut number = 0u64;
-    let mut at = 0;
-    loop {
-        if characters.len() <= at {
-            break Hex::Number(number);
-        }
-        let digit = digit_value(characters[at]);
-        if digit > 15 {
-            break Hex::NoDigit;
-        }
-        number = number * 16 + digit as u64;
-        at += 1;
+    let mut number = 0;
+    for character in characters {
+        let digit = digit_value(*character)?;
+        number = number * 16 + u64::from(digit);
     }
+    Some(number)
 }
 
-// How many digits the line of a frame has.
+// How many digits the line of a frame has: a number for each kind, as the paper gives it.
 fn digit_count(kind: Kind) -> usize
     ensures { result ≡ digit_count kind }
 {
@@ -96,86 +74,91 @@ fn digit_count(kind: Kind) -> usize
 }
 
 // A line of the length of such a frame.
-fn read_as(kind: Kind, characters: &[u8]) -> StoredLine
+fn read_as(kind: Kind, characters: &[u8]) -> Result<StoredFrame, Refusal>
     requires { length characters.now ≤ 11 }
     ensures { result ≡ read_as kind characters.now }
 {
-    let Hex::Number(number) = hex_number(characters) else {
-        return StoredLine::Refused { refusal: 11 };
-    };
-    if !is_frame(kind, number) {
-        return StoredLine::Refused { refusal: 12 };
+    let number = hex_number(characters).ok_or(Refusal::Character)?;
+    if is_frame(kind, number) {
+        Ok(StoredFrame { kind, number })
+    } else {
+        Err(Refusal::Frame)
     }
-    StoredLine::Frame { kind, number }
 }
 
 // The frame of a line, given as its characters without the line feed.
 #[tactic(auto, using(laws::proofs::Rules::picks), unfolding(crate::specs::Read::read_line))]
-pub fn read_line(characters: &[u8]) -> StoredLine
+pub fn read_line(characters: &[u8]) -> Result<StoredFrame, Refusal>
     ensures { result ≡ read_line characters.now }
 {
-    if characters.len() == 4 {
-        return read_as(Kind::Short, characters);
+    match characters.len() {
+        4 => read_as(Kind::Short, characters),
+        11 => read_as(Kind::Long, characters),
+        _ => Err(Refusal::LineLength),
     }
-    if characters.len() == 11 {
-        return read_as(Kind::Long, characters);
-    }
-    StoredLine::Refused { refusal: 10 }
 }
 
-// The answer in the paper's numbers.
-pub fn line_answer(line: StoredLine) -> LineAnswer
+impl From<Result<StoredFrame, Refusal>> for LineAnswer {
+    ghost from_gives = { λ given answer. answer ≡ line_answer given };
+
+    fn from(line: Result<StoredFrame, Refusal>) -> LineAnswer {
+        match line {
+            Ok(frame) => LineAnswer {
+                refusal: 0,
+                kind: format_bit(frame.kind),
+                number: frame.number,
+            },
+            Err(refusal) => LineAnswer {
+                refusal: u8::from(refusal),
+                kind: 0,
+                number: 0,
+            },
+        }
+    }
+}
+
+// The answer in the paper's numbers. It stands beside `From`, since the documents name it.
+pub fn line_answer(line: Result<StoredFrame, Refusal>) -> LineAnswer
     ensures { result ≡ line_answer line }
 {
-    match line {
-        StoredLine::Frame { kind, number } => frame_answer(kind, number),
-        StoredLine::Refused { refusal } => LineAnswer {
-            refusal,
-            kind: 0,
-            number: 0,
-        },
-    }
+    LineAnswer::from(line)
 }
 
-fn frame_answer(kind: Kind, number: u64) -> LineAnswer
-    ensures { result ≡ line_answer (Frame kind number) }
+// A number for each kind, as in frame.
+fn format_bit(kind: Kind) -> u8
+    ensures { result ≡ format_bit kind }
 {
     match kind {
-        Kind::Short => LineAnswer {
-            refusal: 0,
-            kind: 0,
-            number,
-        },
-        Kind::Long => LineAnswer {
-            refusal: 0,
-            kind: 1,
-            number,
-        },
+        Kind::Short => 0,
+        Kind::Long => 1,
     }
 }
 
 // The capital digit of a value.
+// By hand: char::from_digit gives a character, and small letters.
+#[tactic(auto, using(laws::proofs::Rules::picks), unfolding(crate::specs::Digits::digit_character))]
 fn digit_character(value: u8) -> u8
     requires { value < 16 }
     ensures { result ≡ digit_character value }
 {
     if value < 10 {
-        return b'0' + value;
+        b'0' + value
+    } else {
+        b'A' + (value - 10)
     }
-    b'A' + (value - 10)
 }
 
-// Writes so many digits to the front of the buffer, the last first.
+// Writes so many digits to the front of the buffer, the last first. `iter_mut().rev()` did not close: the
+// check knows nothing of what that adapter leaves.
+// Into the buffer of the caller: no heap. It is told how many digits, not what is filled.
 fn write_digits(digits: usize, number: u64, buffer: &mut [u8])
     requires { digits ≤ length buffer.old }
     ensures { buffer.new ≡ hex_digits digits number ++ drop digits buffer.old }
 {
     let mut rest = number;
-    let mut at = digits;
-    while at > 0 {
-        at -= 1;
+    for at in (0..digits).rev() {
         buffer[at] = digit_character((rest % 16) as u8);
-        rest = rest / 16;
+        rest /= 16;
     }
 }
 
@@ -184,33 +167,38 @@ fn write_digits(digits: usize, number: u64, buffer: &mut [u8])
 pub fn write_hex(digits: usize, number: u64, buffer: &mut [u8])
     ensures { buffer.new ≡ hex_written digits number buffer.old }
 {
-    if buffer.len() < digits {
-        return;
+    if digits <= buffer.len() {
+        write_digits(digits, number, buffer);
     }
-    write_digits(digits, number, buffer);
 }
 
-// Writes the line of a frame, with its line feed, to the front of the buffer.
-pub fn write_line(kind: Kind, number: u64, buffer: &mut [u8]) -> Written
-    ensures { write_done result buffer.new ≡ write_line kind number buffer.old }
+// Writes the line of a frame, with its line feed, to the front of the buffer. Answers its length.
+// Kind and number go apart, as in frame.
+pub fn write_line(kind: Kind, number: u64, buffer: &mut [u8]) -> Result<u8, Refusal>
+    ensures { write_done (written_answer result) buffer.new ≡ write_line kind number buffer.old }
 {
     if !is_frame(kind, number) {
-        return Written {
-            refusal: 12,
-            size: 0,
-        };
+        return Err(Refusal::Frame);
     }
     let digits = digit_count(kind);
     if buffer.len() <= digits {
-        return Written {
-            refusal: 14,
-            size: 0,
-        };
+        return Err(Refusal::LineBuffer);
     }
     buffer[digits] = b'\n';
     write_digits(digits, number, buffer);
-    Written {
-        refusal: 0,
-        size: (digits + 1) as u8,
+    Ok((digits + 1) as u8)
+}
+
+impl From<Result<u8, Refusal>> for Written {
+    ghost from_gives = { λ given answer. answer ≡ written_answer given };
+
+    fn from(given: Result<u8, Refusal>) -> Written {
+        match given {
+            Ok(size) => Written { refusal: 0, size },
+            Err(refusal) => Written {
+                refusal: u8::from(refusal),
+                size: 0,
+            },
+        }
     }
 }

@@ -1,21 +1,12 @@
 -- A record's five numbers in a buffer. Assumes nothing.
-use mathlib.Core.Path.{◌≡◌, refl, sym, ◌∙◌}
-use mathlib.Core.List.{List, [], ◌∷◌, ◌++◌, append-nil, append_assoc}
+use mathlib.Core.Path.{◌≡◌, sym, ◌∙◌}
+use mathlib.Core.List.{List, ◌++◌, append-nil, append_assoc}
 use Prim.Native.Nat.{ℕ, ◌+◌, ◌-◌, ◌≤◌}
 use native.Mathlib.Omega.{arith}
-use lib.ListN.{length, take, drop, set, length-drop, drop_of_length-le}
+use lib.ListN.{length, take, drop, length-drop, drop_of_length-le}
 use lib.Seq.{sets, sets-eq, take_all, drop-drop}
 use Rattle.trace.specs.Record.{record_numbers, numbers_of}
 use Rattle.trace.specs.declared.TraceRecord.{TraceRecord}
-
--- five numbers stored one by one at the front
-pub five_set : (l : List ℕ) (a b c d e : ℕ) → record_numbers ≤ length l → set (set (set (set (set l 0 a) 1 b) 2 c) 3 d) 4 e ≡ (a ∷ b ∷ c ∷ d ∷ e ∷ []) ++ drop record_numbers l
-five_set [] a b c d e h = absurd (omega arith)
-five_set (x₀ ∷ []) a b c d e h = absurd (omega arith)
-five_set (x₀ ∷ x₁ ∷ []) a b c d e h = absurd (omega arith)
-five_set (x₀ ∷ x₁ ∷ x₂ ∷ []) a b c d e h = absurd (omega arith)
-five_set (x₀ ∷ x₁ ∷ x₂ ∷ x₃ ∷ []) a b c d e h = absurd (omega arith)
-five_set (x₀ ∷ x₁ ∷ x₂ ∷ x₃ ∷ x₄ ∷ l) a b c d e h = refl
 
 -- the buffer once a record stands at the front of its tail
 pub tail_set : (buffer tail : List ℕ) (next : ℕ) (new : TraceRecord) → next + record_numbers ≤ length buffer

@@ -1,12 +1,19 @@
 -- Clocks without a record, done together. Assumes nothing.
-use mathlib.Core.Path.{◌≡◌, sym, ap, subst, ◌∙◌}
-use mathlib.Core.Bool.{true}
+use mathlib.Core.Path.{◌≡◌, refl, sym, ap, subst, ◌∙◌}
+use mathlib.Core.Bool.{Bool, true, false, not}
 use mathlib.Core.List.{List}
-use Prim.Native.Nat.{ℕ, ◌+◌, ◌-◌, ◌<◌, ◌≤◌}
-use native.Mathlib.Nat.{mod-lt}
+use Prim.Native.Nat.{ℕ, zero, suc, ◌+◌, ◌-◌, ◌<◌, ◌≤◌}
+use native.Mathlib.Nat.{add-zero, mod-lt}
 use native.Mathlib.Omega.{arith}
-use lib.Dec.{lit<}
-use lib.ListN.{length, get_or, drop}
+use lib.Dec.{eqb, ltb, lit<}
+use borrow.Author.Tests.{eqb-true, ltb-false}
+use lib.ListN.{length, get_or, take, drop, length-drop}
+use Rattle.std.specs.List.{position, position_or_len}
+use Rattle.std.specs.Option.{unwrap_or}
+use Rattle.std.proofs.lemmas.Bool.{not-false}
+use Rattle.laws.proofs.Rules.{by_test}
+use Rattle.std.proofs.lemmas.List.{take_all, get_or-drop}
+use Rattle.std.proofs.lemmas.List.Sums.{prefix_len-le-length, fails_before_first}
 use Rattle.frame.specs.declared.Kind.{Kind}
 use Rattle.receiver_state.specs.declared.Core.{Core}
 use Rattle.receiver_state.specs.declared.Held.{Held}
@@ -135,6 +142,43 @@ module _ (progress : Progress) (block : List ℕ) (g : ProgressFacts progress bl
       rest_next progress block g.is_well_formed (wanting_ones n) (wanting_ones (wanted - ((at + 1) - progress.next))) at q resting here
       (ap trigger_bit two)
       (ap (λ (byte : ℕ). take_bit (wanting_ones n) (channel_bit byte)) two ∙ bit_law.one_wanted n ∙ ap (λ (k : ℕ). Unfinished (wanting_ones k)) fewer)
+
+  -- a byte that ends them
+  abbrev ends : ℕ → Bool
+  ends byte = not (eqb byte 2)
+
+  -- and so with as many of them as come next
+  idle_steps : progress.run.receiver.held.count ≡ 0 → at_rest progress.run.receiver.core ≡ true → (count : ℕ) → progress.next + count ≤ length block
+      → ((k : ℕ) → k < count → get_or block (progress.next + k) 0 ≡ 2) → IdleTo progress block (progress.next + count)
+  idle_steps none resting zero within each = subst (IdleTo progress block) (sym (add-zero progress.next)) (idle_first none)
+  idle_steps none resting (suc count) within each =
+      let one_more : progress.next + count + 1 ≡ progress.next + suc count = omega arith in
+      let before = idle_steps none resting count (omega arith) (λ k l. each k (omega arith)) in
+      subst (IdleTo progress block) one_more (idle_next resting (progress.next + count) before (omega arith) (each count (omega arith)))
+
+  pub idle_run : progress.run.receiver.held.count ≡ 0 → at_rest progress.run.receiver.core ≡ true → (count : ℕ)
+      → count ≡ unwrap_or (position ends (take (length block - progress.next) (drop progress.next block))) (length block - progress.next)
+      → (progress.next + count ≤ length block) × IdleTo progress block (progress.next + count)
+  idle_run none resting count e =
+      let tail = drop progress.next block in
+      let long : length tail ≡ length block - progress.next = length-drop progress.next block in
+      let is = e ∙ ap (λ (bytes : List ℕ). unwrap_or (position ends bytes) (length block - progress.next)) (take_all (length block - progress.next) tail (omega arith))
+      ∙ ap (unwrap_or (position ends tail)) (sym long) ∙ first_or_length tail in
+      let fits = prefix_len-le-length (λ (byte : ℕ). not (ends byte)) tail in
+      let within : progress.next + count ≤ length block = omega (arith, g.within) in (
+        within,
+        idle_steps none resting count within
+            (λ k l. sym (get_or-drop progress.next block k 0) ∙ is_two _ (fails_before_first ends tail k 0 (omega arith))),
+      )
+    where
+      first_or_length : (bytes : List ℕ) → unwrap_or (position ends bytes) (length bytes) ≡ position_or_len ends bytes
+      first_or_length bytes =
+          by_test (ltb (position_or_len ends bytes) (length bytes)) (λ t. rw t refl)
+          (λ t. let most = prefix_len-le-length (λ (byte : ℕ). not (ends byte)) bytes in
+          let least : length bytes ≤ position_or_len ends bytes = ltb-false _ _ t in rw t (omega arith))
+
+      is_two : (byte : ℕ) → ends byte ≡ false → byte ≡ 2
+      is_two byte e = eqb-true byte 2 (not-false (eqb byte 2) e)
 
   pub idle_last_lem : at_rest progress.run.receiver.core ≡ true → (at : ℕ) → IdleTo progress block at → (after : Progress) → after ≡ idle_progress at progress
       → (Rested block progress after) × (at_rest after.run.receiver.core ≡ true)

@@ -1,6 +1,8 @@
--- Document 02, Q-3: a block of clocks in one call, by the definition of a single clock. `BlockAnswer` is a struct of src/lib.rt.
-use Rattle.std.specs.Prelude.{ℕ, suc, ◌*◌, ◌/◌, ◌%◌, ◌≡◌, ◌≢◌, Bool, cond, not, ◌||◌, List, [], ◌∷◌, ◌++◌, eqb, ltb, leb, length, drop}
+-- Document 02, Q-3: a block of clocks in one call, by the definition of a single clock. `Running` is a struct of src/lib.rt.
+use Rattle.std.specs.Prelude.{ℕ, suc, ◌*◌, ◌/◌, ◌%◌, ◌≡◌, ◌≢◌, Bool, cond, not, ◌||◌, List, [], ◌∷◌, ◌++◌, eqb, ltb, leb, length, drop, Result, Ok, Err}
 use Rattle.laws.specs.Table.{every_entry}
+use Rattle.refusals.specs.declared.Refusal.{Refusal}
+use Rattle.refusals.specs.Refusals.{number}
 use Rattle.frame.specs.declared.Kind.{Kind}
 use Rattle.receiver_state.specs.declared.Receiver.{Receiver}
 use Rattle.receiver_state.specs.declared.Outputs.{Outputs}
@@ -8,7 +10,7 @@ use Rattle.receiver_state.specs.WellFormed.{well_formed}
 use Rattle.receiver.specs.declared.ClockAnswer.{ClockAnswer}
 use Rattle.receiver.specs.Clock.{clock_answer}
 use Rattle.trace.specs.declared.TraceRecord.{TraceRecord}
-use Rattle.trace.specs.declared.BlockAnswer.{BlockAnswer}
+use Rattle.trace.specs.declared.Running.{Running}
 use Rattle.trace.specs.Record.{trace_record, record_numbers, numbers_of}
 
 -- ---- the clocks of a block, done singly
@@ -65,7 +67,13 @@ block_records columns r block = records_of (singly columns 0 r block)
 
 -- ---- the call
 
--- what it answers, and what the whole lent buffer then holds
+-- what it answers: the number of refusal, "the new state and the number of records"
+pub record BlockAnswer : Type 0 where
+  pub refusal : ℕ
+  pub receiver : Receiver
+  pub records : ℕ
+
+-- that, and what the whole lent buffer then holds
 pub record BlockDone : Type 0 where
   pub answer : BlockAnswer
   pub buffer : List ℕ
@@ -75,6 +83,11 @@ block_done answer buffer = record { answer = answer; buffer = buffer }
 
 abbrev pub block_answer : ℕ → Receiver → ℕ → BlockAnswer
 block_answer refusal r records = record { refusal = refusal; receiver = r; records = records }
+
+-- what a block on this state answers: with a refusal the state as it came, and no record
+abbrev pub block_outcome : Receiver → Result Running Refusal → BlockAnswer
+block_outcome r (Ok run) = block_answer 0 run.receiver run.records
+block_outcome r (Err refusal) = block_answer (number refusal) r 0
 
 -- document 01: "all other result fields 0 .., the state unchanged .., and no lent byte written"
 abbrev pub refused_block : ℕ → Receiver → List ℕ → BlockDone

@@ -7,15 +7,15 @@
 #![tactic(auto)]
 
 ghost use Rattle.std.specs.Prelude.{◌≡◌};
-ghost use Rattle.hamming.specs.Code.{in_use};
-ghost use Rattle.frame.specs.Columns.{columns_for, columns_of};
+ghost use Rattle.frame.specs.Columns.{columns_of, tables};
 ghost use Rattle.trace.specs.Record.{trace_record};
 ghost use Rattle.trace.specs.Filled.{filled_length, filled_part};
-ghost use Rattle.trace.specs.Block.{block_done, block_answer, run_block};
+ghost use Rattle.trace.specs.Block.{block_done, block_outcome, run_block};
 
 use clocks::{no_byte_over_3, run_clocks};
-use hamming::column_table;
+use frame::{Columns, own_columns};
 use receiver_state::{Counters, Outputs, Receiver, well_formed};
+use refusals::Refusal;
 
 mod clocks;
 mod records;
@@ -30,22 +30,17 @@ pub struct TraceRecord {
     pub word: u32,
 }
 
-// What a block answers: the number of refusal, the state, and how many records were written.
-#[derive(Clone, Copy)]
-pub struct BlockAnswer {
-    pub refusal: u8,
-    pub receiver: Receiver,
-    pub records: usize,
-}
-
-// A block in the course of its clocks: the receiver, and the records written so far.
+// What the clocks of a block left so far: the receiver, and how many records were written.
+// Records are counted here, since they are in the buffer that the caller lends: no heap.
 #[derive(Clone, Copy)]
 pub struct Running {
     pub receiver: Receiver,
     pub records: usize,
 }
 
-// How far a block has come: what its clocks left so far, and the place of the next one.
+// How far a block has come: what its clocks left so far, and the place of the next one. The lent block
+// and buffer stay apart from it, as the room that is left is a fact of all three: a struct that held
+// them would be taken apart in each function, and is no plainer.
 #[derive(Clone, Copy)]
 pub struct Progress {
     pub run: Running,
@@ -59,17 +54,18 @@ pub const RECORD_NUMBERS: usize = 5;
 pub const BLOCK_CLOCKS: usize = 4096;
 
 // The record of the clock at a place, with these counters before it and these outputs.
+// Three parts make it, and no From takes three.
 pub fn record_of(place: u32, before: Counters, outputs: Outputs) -> TraceRecord
     ensures { result ≡ trace_record place before outputs }
 {
     TraceRecord {
         place,
-        bunch: before.bunch as u32,
+        bunch: u32::from(before.bunch),
         event: before.event,
-        code: outputs.verdict as u32
-            + 16 * outputs.corrected as u32
-            + 32 * outputs.trigger as u32
-            + 64 * outputs.missed as u32,
+        code: u32::from(outputs.verdict)
+            + 16 * u32::from(outputs.corrected)
+            + 32 * u32::from(outputs.trigger)
+            + 64 * u32::from(outputs.missed),
         word: outputs.word,
     }
 }
@@ -81,9 +77,10 @@ pub fn filled_length(room: usize, records: usize) -> usize
     ensures { result ≡ filled_length room records }
 {
     if records <= room / RECORD_NUMBERS {
-        return RECORD_NUMBERS * records;
+        RECORD_NUMBERS * records
+    } else {
+        0
     }
-    0
 }
 
 // The front part of the caller's own buffer that so many records take up; its empty front where they
@@ -96,53 +93,36 @@ pub fn filled_part(buffer: &[u32], records: usize) -> &[u32]
     &buffer[..numbers]
 }
 
-fn refuse_block(refusal: u8, receiver: Receiver) -> BlockAnswer
-    ensures { result ≡ block_answer refusal receiver 0 }
-{
-    BlockAnswer {
-        refusal,
-        receiver,
-        records: 0,
-    }
-}
-
 // The clocks of a whole block over these columns, with a record of each that has a trigger or finishes
 // a frame. Block and state are checked once, before the first clock; the columns are not checked here.
+// Receiver, block and buffer go apart, as C hands them over.
+#[tactic(auto, using(laws::proofs::Rules::picks), unfolding(crate::specs::Block::run_block, refusals::specs::Refusals::number))]
 pub fn run_block_over(
-    short: &[u8],
-    long: &[u8],
+    columns: Columns,
     receiver: Receiver,
     block: &[u8],
     buffer: &mut [u32],
-) -> BlockAnswer
-    ensures { block_done result buffer.new ≡ run_block (columns_for (in_use short.now) (in_use long.now)) receiver block.now buffer.old }
+) -> Result<Running, Refusal>
+    ensures { block_done (block_outcome receiver result) buffer.new ≡ run_block (tables columns.entry) receiver block.now buffer.old }
 {
     if !well_formed(receiver) {
-        return refuse_block(2, receiver);
+        return Err(Refusal::State);
     }
     if block.len() > BLOCK_CLOCKS {
-        return refuse_block(15, receiver);
+        return Err(Refusal::BlockLength);
     }
     if buffer.len() < RECORD_NUMBERS * block.len() {
-        return refuse_block(16, receiver);
+        return Err(Refusal::RecordBuffer);
     }
     if !no_byte_over_3(block) {
-        return refuse_block(1, receiver);
+        return Err(Refusal::Bit);
     }
-    let run = run_clocks(short, long, receiver, block, buffer);
-    let last = run.receiver;
-    BlockAnswer {
-        refusal: 0,
-        receiver: last,
-        records: run.records,
-    }
+    Ok(run_clocks(columns, receiver, block, buffer))
 }
 
 // The same over document 01's table.
-pub fn run_block(receiver: Receiver, block: &[u8], buffer: &mut [u32]) -> BlockAnswer
-    ensures { block_done result buffer.new ≡ run_block columns_of receiver block.now buffer.old }
+pub fn run_block(receiver: Receiver, block: &[u8], buffer: &mut [u32]) -> Result<Running, Refusal>
+    ensures { block_done (block_outcome receiver result) buffer.new ≡ run_block columns_of receiver block.now buffer.old }
 {
-    let short = column_table();
-    let long = column_table();
-    run_block_over(&short[..8], &long, receiver, block, buffer)
+    run_block_over(own_columns(), receiver, block, buffer)
 }

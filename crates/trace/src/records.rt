@@ -6,7 +6,8 @@ ghost use Rattle.trace.specs.Run.{leaves, with_record};
 use crate::{RECORD_NUMBERS, Running, TraceRecord};
 use receiver_state::Receiver;
 
-// Writes a record to the front of what is left of the buffer.
+// Writes a record to the front of what is left of the buffer. By `copy_from_slice` from an array of
+// the five, blocks with a trigger on every clock have three quarters of the speed.
 fn put_record(free: &mut [u32], new: TraceRecord)
     requires { record_numbers ≤ length free.old }
     ensures { free.new ≡ numbers_of new ++ drop record_numbers free.old }
@@ -19,6 +20,7 @@ fn put_record(free: &mut [u32], new: TraceRecord)
 }
 
 // A record goes after the others.
+// The tail of the buffer is lent to the writer: document 01 names this form.
 pub(crate) fn add_record(
     receiver: Receiver,
     records: usize,

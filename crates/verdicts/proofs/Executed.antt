@@ -7,8 +7,10 @@ use Prim.Native.Nat.{ℕ}
 use native.Mathlib.Omega.{arith}
 use Rattle.laws.specs.OneOf.{one_of}
 use Rattle.hamming.specs.declared.WrongBit.{WrongBit}
-use Rattle.hamming.specs.declared.WrongBit.TheVariants.{None, Check, Data}
-use Rattle.hamming.specs.Correction.{NoneOrProtected}
+use Rattle.hamming.specs.declared.WrongBit.TheVariants.{Check, Data}
+use Rattle.std.specs.declared.option.Option.{Option}
+use Rattle.std.specs.declared.option.Option.TheVariants.{Some, None}
+use Rattle.hamming.specs.Correction.{NoneOrProtected, flag_of}
 use Rattle.frame.specs.declared.Kind.{Kind}
 use Rattle.frame.specs.declared.Kind.TheVariants.{Short, Long}
 use Rattle.frame.specs.declared.Fields.{Fields}
@@ -56,25 +58,25 @@ good_executed Long fields core = long_executed fields core.ids.id (long_row fiel
 -- ---- decoded and encoded
 
 -- an encoded frame with no bit or one protected bit flipped decodes to its fields
-decodes : (columns : List ℕ) (kind : Kind) (fields : Fields) (wrong : WrongBit) → FrameFacts columns kind → InRange kind fields
+decodes : (columns : List ℕ) (kind : Kind) (fields : Fields) (wrong : Option WrongBit) → FrameFacts columns kind → InRange kind fields
     → NoneOrProtected (data_bits kind) (check_bits kind) wrong
     → (flag : ℕ) × (decode_frame columns kind (flip_protected kind wrong (encode_fields columns kind fields)) ≡ fields_answer kind flag (place_in kind wrong) fields)
 decodes columns kind fields None f h p =
     (0, ap (λ (x : Encoded). decode_frame columns kind x.number) (sym (f.encodes_in_range fields h)) ∙ f.round_trip fields h)
-decodes columns kind fields (Check j) f h p = (1, f.one_flip fields (Check j) h p)
-decodes columns kind fields (Data i) f h p = (1, f.one_flip fields (Data i) h p)
+decodes columns kind fields (Some (Check j)) f h p = (1, f.one_flip fields (Some (Check j)) h p)
+decodes columns kind fields (Some (Data i)) f h p = (1, f.one_flip fields (Some (Data i)) h p)
 
 module _ (columns : Kind → List ℕ) (facts : (kind : Kind) → FrameFacts (columns kind) kind) (idle : Clocked) where
   abbrev ExecutedNow : Kind → Answer → Type 0
   ExecutedNow kind frame = executed (finished kind frame idle).outputs.verdict ≡ true
 
   -- a frame that is judged good was encoded, and at most one bit of it is wrong
-  pub good_encoding : (kind : Kind) (number : ℕ) → is_frame kind number ≡ true → (word : ℕ) (raised : Bool) (wrong : WrongBit)
-      → judged (columns kind) kind number ≡ Good word raised wrong
-      → (p : WrongBit) × EncodingOf (columns kind) kind number (cond raised 1 0) (place_in kind wrong) word (fields_of kind word) p
+  pub good_encoding : (kind : Kind) (number : ℕ) → is_frame kind number ≡ true → (word : ℕ) (wrong : Option WrongBit)
+      → judged (columns kind) kind number ≡ Good word wrong
+      → (p : Option WrongBit) × EncodingOf (columns kind) kind number (cond (flag_of wrong) 1 0) (place_in kind wrong) word (fields_of kind word) p
   unfolding finished_answer
-  good_encoding kind number h word raised wrong e =
-      (facts kind).decoded_only_if number (cond raised 1 0) (place_in kind wrong) word (fields_of kind word)
+  good_encoding kind number h word wrong e =
+      (facts kind).decoded_only_if number (cond (flag_of wrong) 1 0) (place_in kind wrong) word (fields_of kind word)
       (finished_answer_lem columns kind number h ∙ ap (answer_to kind) e)
 
   -- what is executed was so encoded
@@ -85,8 +87,8 @@ module _ (columns : Kind → List ℕ) (facts : (kind : Kind) → FrameFacts (co
   only_if kind number h EvenSyndrome e x = absurd (false≢true x)
   only_if kind number h OddSyndrome e x = absurd (false≢true x)
   only_if kind number h (FixedZero word) e x = absurd (false≢true x)
-  only_if kind number h (Good word raised wrong) e x =
-      let p = good_encoding kind number h word raised wrong e in
+  only_if kind number h (Good word wrong) e x =
+      let p = good_encoding kind number h word wrong e in
       record {
         stop = p.1.stop;
         fields = fields_of kind word;
@@ -94,7 +96,7 @@ module _ (columns : Kind → List ℕ) (facts : (kind : Kind) → FrameFacts (co
         wrong = p.0;
         none_or_protected = p.1.bit;
         number_is = p.1.number_is;
-        row_is = (good_executed kind (fields_of kind word) (count_errors (good_answer kind (cond raised 1 0) (place_in kind wrong) word) idle.core)).0 x;
+        row_is = (good_executed kind (fields_of kind word) (count_errors (good_answer kind (cond (flag_of wrong) 1 0) (place_in kind wrong) word) idle.core)).0 x;
       }
 
   -- and what was so encoded is executed

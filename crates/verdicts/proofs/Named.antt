@@ -26,7 +26,7 @@ place_most kind StopZero = omega arith
 place_most kind EvenSyndrome = omega arith
 place_most kind OddSyndrome = omega arith
 place_most kind (FixedZero word) = omega arith
-place_most kind (Good word flag wrong) = (place_laws (data_bits kind) (check_bits kind)).last wrong
+place_most kind (Good word wrong) = (place_laws (data_bits kind) (check_bits kind)).last wrong
 
 -- a number other than 0
 some_place : (n : ℕ) → n ≢ 0 → 1 ≤ n
@@ -40,8 +40,8 @@ module _ (columns : Kind → List ℕ) (facts : (kind : Kind) → FrameFacts (co
   clean_at kind number h EvenSyndrome e n = absurd (n refl)
   clean_at kind number h OddSyndrome e n = absurd (n refl)
   clean_at kind number h (FixedZero word) e n = absurd (n refl)
-  clean_at kind number h (Good word raised wrong) e n =
-      let p = good_encoding columns facts idle kind number h word raised wrong e in
+  clean_at kind number h (Good word wrong) e n =
+      let p = good_encoding columns facts idle kind number h word wrong e in
       record { fields = fields_of kind word; in_range = p.1.in_range; clean_is = p.1.clean_is; word_is = p.1.word_is }
 
   pub bit_named : (kind : Kind) (number : ℕ) → is_frame kind number ≡ true → BitNamed columns kind number (finished_by columns kind number idle).outputs

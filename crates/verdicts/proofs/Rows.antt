@@ -11,6 +11,7 @@ use Rattle.laws.proofs.Rules.{picked_by, by_test}
 use Rattle.frame.specs.declared.Kind.{Kind}
 use Rattle.frame.specs.declared.Kind.TheVariants.{Short, Long}
 use Rattle.frame.specs.declared.Fields.{Fields}
+use Rattle.hamming.specs.Correction.{flag_of}
 use Rattle.frame.specs.declared.Judged.{Judged}
 use Rattle.frame.specs.declared.Judged.TheVariants.{StopZero, EvenSyndrome, OddSyndrome, FixedZero, Good}
 use Rattle.frame.specs.declared.Answer.{Answer}
@@ -112,8 +113,8 @@ by_row P kind StopZero core lost short long = lost 7 0 refl (omega arith)
 by_row P kind EvenSyndrome core lost short long = lost 8 0 refl (omega arith)
 by_row P kind OddSyndrome core lost short long = lost 11 0 refl (omega arith)
 by_row P kind (FixedZero word) core lost short long = lost 9 word refl (omega arith)
-by_row P Short (Good word flag wrong) core lost short long = short (record { flag = cond flag 1 0; place = place_in Short wrong; word = word })
-by_row P Long (Good word flag wrong) core lost short long = long (record { flag = cond flag 1 0; place = place_in Long wrong; word = word }) _ refl
+by_row P Short (Good word wrong) core lost short long = short (record { flag = cond (flag_of wrong) 1 0; place = place_in Short wrong; word = word })
+by_row P Long (Good word wrong) core lost short long = long (record { flag = cond (flag_of wrong) 1 0; place = place_in Long wrong; word = word }) _ refl
 
 -- what holds of a core, and with any counters changed, holds after a broadcast
 pub cleared_changes : (P : Core → Type 0) (byte : ℕ) (core : Core) → P core → ((new : Counters) → P (with_counters new core)) → P (cleared_by byte core)

@@ -9,8 +9,9 @@ use borrow.Author.Tests.{eq-eqb, eqb-true}
 use lib.Dec.{eqb}
 use Rattle.laws.specs.OneOf.{one_of}
 use Rattle.laws.proofs.Rules.{picked, picked_by}
-use Rattle.hamming.specs.declared.Decoded.{Decoded}
-use Rattle.hamming.specs.declared.Decoded.TheVariants.{Word, Uncorrectable}
+use Rattle.hamming.specs.declared.Word.{Word}
+use Rattle.std.specs.declared.option.Option.{Option}
+use Rattle.std.specs.declared.option.Option.TheVariants.{Some, None}
 use lib.Count.{ones}
 use Rattle.hamming.specs.Correction.{syndrome_of, decoded}
 use Rattle.frame.specs.declared.Kind.{Kind}
@@ -110,19 +111,19 @@ no_row_dropped Other e = true≢false (sym e)
 abbrev NotSeven : Kind → Core → Judged → Type 0
 NotSeven kind core found = let frame = answer_to kind found in (table_row kind frame (count_errors frame core)).verdict ≢ 7
 
-not_seven : (kind : Kind) (s : ℕ) (decoded : Decoded) (core : Core) → let frame = answer_to kind (judged_word kind s decoded) in
+not_seven : (kind : Kind) (s : ℕ) (decoded : Option Word) (core : Core) → let frame = answer_to kind (judged_word kind s decoded) in
     (table_row kind frame (count_errors frame core)).verdict ≢ 7
 unfolding table_row count_errors dropped one_of
-not_seven kind s Uncorrectable core =
+not_seven kind s None core =
     picked (NotSeven kind core) (eqb (ones s % 2) 0) (λ e. let z : ◌≡◌ {A = ℕ} 8 7 = e in omega arith) (λ e. let z : ◌≡◌ {A = ℕ} 11 7 = e in omega arith)
-not_seven kind s (Word word flag wrong) core = picked (NotSeven kind core) (fixed_zero kind word) nine (good kind)
+not_seven kind s (Some w) core = picked (NotSeven kind core) (fixed_zero kind w.«data») nine (good kind)
   where
-    nine : NotSeven kind core (FixedZero word)
+    nine : NotSeven kind core (FixedZero w.«data»)
     nine e = let z : ◌≡◌ {A = ℕ} 9 7 = e in omega arith
 
-    good : (kind : Kind) → let frame = answer_to kind (Good word flag wrong) in (table_row kind frame (count_errors frame core)).verdict ≢ 7
+    good : (kind : Kind) → let frame = answer_to kind (Good w.«data» w.wrong) in (table_row kind frame (count_errors frame core)).verdict ≢ 7
     good Short e = let z : ◌≡◌ {A = ℕ} 1 7 = e in omega arith
-    good Long e = no_row_dropped (long_row (fields_of Long word) core.ids.id) (ap dropped e)
+    good Long e = no_row_dropped (long_row (fields_of Long w.«data») core.ids.id) (ap dropped e)
 
 pub seven_exactly : (columns : Kind → List ℕ) (kind : Kind) (number : ℕ) (idle : Clocked)
     → ((finished_by columns kind number idle).outputs.verdict ≡ 7) ↔ (stop_bit number ≡ 0)

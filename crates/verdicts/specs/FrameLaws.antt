@@ -1,6 +1,6 @@
 -- Document 01, "Fate of a finished frame", with document 02, Q-4 and Q-8, as facts of what a clock shows and leaves: the words of Laws.antt, here and in
 -- the crate `receiver`.
-use Rattle.std.specs.Prelude.{ℕ, ◌+◌, ◌/◌, ◌%◌, ◌^◌, ◌<◌, ◌≤◌, ◌≡◌, ◌≢◌, ◌⊎◌, ◌↔◌, true, false, cond, List, eqb}
+use Rattle.std.specs.Prelude.{ℕ, ◌+◌, ◌/◌, ◌%◌, ◌^◌, ◌<◌, ◌≤◌, ◌≡◌, ◌≢◌, ◌⊎◌, ◌↔◌, true, false, cond, List, eqb, Option}
 use Rattle.hamming.specs.declared.WrongBit.{WrongBit}
 use Rattle.hamming.specs.Correction.{NoneOrProtected}
 use Rattle.frame.specs.declared.Kind.{Kind}
@@ -134,7 +134,7 @@ pub record ExecutedFrame (columns : Kind → List ℕ) (kind : Kind) (number id 
   pub stop : stop_bit number ≡ 1
   pub fields : Fields
   pub in_range : InRange kind fields
-  pub wrong : WrongBit
+  pub wrong : Option WrongBit
   pub none_or_protected : NoneOrProtected (data_bits kind) (check_bits kind) wrong
   pub number_is : number ≡ flip_protected kind wrong (encode_fields (columns kind) kind fields)
   pub row_is : ExecutedRow kind fields id

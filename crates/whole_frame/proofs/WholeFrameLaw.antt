@@ -10,7 +10,7 @@ use Rattle.frame.specs.declared.Kind.{Kind}
 use Rattle.frame.specs.Numbers.{frame_bits, is_frame}
 use Rattle.frame.specs.Columns.{columns_of, GoodTables}
 use Rattle.frame.specs.Bits.{bits_of}
-use Rattle.frame.proofs.Columns.{tables_good}
+use Rattle.frame.proofs.OwnColumns.{tables_good}
 use Rattle.receiver_state.specs.declared.Receiver.{Receiver}
 use Rattle.receiver_state.specs.State.{receiver}
 use Rattle.receiver_state.specs.WellFormed.{well_formed}

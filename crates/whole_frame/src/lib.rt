@@ -1,26 +1,25 @@
 // Document 01, "Frames on channel B" and "One clock": a whole frame sent to a receiver in one call.
 //
 // The state goes by value, in and out: see `receiver_state`. Columns are only read, and are lent: the
-// public function passes document 01's table down.
+// functions without them pass document 01's down.
 #![tactic(auto)]
 
 ghost use Rattle.std.specs.Prelude.{◌≡◌, true, ◌<◌, ◌≤◌, ◌/◌, ◌%◌, ◌^◌};
-ghost use Rattle.hamming.specs.Code.{in_use};
 ghost use Rattle.frame.specs.Numbers.{frame_bits, is_frame};
-ghost use Rattle.frame.specs.Columns.{columns_for, columns_of};
+ghost use Rattle.frame.specs.Columns.{columns_of, tables};
 ghost use Rattle.frame.specs.Bits.{bits_of};
 ghost use Rattle.receiver_state.specs.State.{receiver, nothing_held, is_waiting};
 ghost use Rattle.receiver_state.specs.WellFormed.{ReceiverFacts};
-ghost use Rattle.receiver.specs.Clock.{step_answer};
+ghost use Rattle.receiver.specs.Clock.{accepted, clock_outcome};
 ghost use Rattle.whole_frame.specs.WholeFrame.{clocks_answer, no_clock, receive_answer, settled_clock};
 ghost use Rattle.whole_frame.specs.ByFormat.{kind_of, receive_by_format};
 
-use channel_b::{Taken, held_after, take_bit};
-use frame::{Kind, decode_finished, frame_bits, is_frame};
-use hamming::column_table;
-use idle_clock::{idle_clock, rest_for, settle};
-use receiver::{ClockAnswer, answered, refuse_clock};
+use channel_b::held_after;
+use frame::{Columns, Kind, decode_finished, frame_bits, is_frame, own_columns};
+use idle_clock::{rest_for, settle};
+use receiver::{Stepped, answered, step};
 use receiver_state::{Clocked, Core, Held, Receiver, is_waiting, no_outputs, well_formed};
+use refusals::Refusal;
 use verdicts::finish;
 
 // The bit of a number at a place, 0 the least.
@@ -31,61 +30,35 @@ fn bit_at(number: u64, place: u8) -> u8
     ((number >> place) % 2) as u8
 }
 
-// One bit on a clock without a trigger: the unchecked step, by its parts. A second caller of `step`
-// would keep it from being inlined into the single clock (docs/DECISIONS.md).
-fn receive_bit(short: &[u8], long: &[u8], receiver: Receiver, bit: u8) -> ClockAnswer
-    ensures { result ≡ step_answer (columns_for (in_use short.now) (in_use long.now)) receiver 0 bit }
-{
-    let taken = take_bit(receiver.held, bit);
-    match taken {
-        Taken::Unfinished(held) => answered(idle_clock(receiver.core, 0), held),
-        Taken::Finished { kind, number } => {
-            let idle = idle_clock(receiver.core, 0);
-            let frame = decode_finished(short, long, kind, number);
-            answered(finish(kind, frame, idle), held_after(number))
-        }
-    }
-}
-
 // So many bits of a number, one a clock, without triggers, on a state that is known to be well formed.
 // This is for receivers that hold bits of another frame or want ones.
-fn receive_bits(
-    short: &[u8],
-    long: &[u8],
-    receiver: Receiver,
-    count: u8,
-    number: u64,
-) -> ClockAnswer
+#[inline(never)]
+#[tactic(auto, unfolding(frame::specs::Bits::bits_of, crate::specs::WholeFrame::clocks_answer))]
+fn receive_bits(columns: Columns, receiver: Receiver, count: u8, number: u64) -> Stepped
     requires { (ReceiverFacts receiver) × (count ≤ 64) }
-    ensures { result ≡ clocks_answer (columns_for (in_use short.now) (in_use long.now)) (no_clock receiver) (bits_of count number) }
+    ensures { accepted result ≡ clocks_answer (tables columns.entry) (no_clock receiver) (bits_of count number) }
 {
-    // No clock yet: number 0, the state as given, and no outputs.
-    let mut answer = refuse_clock(0, receiver);
-    let mut left = count;
-    while left > 0 {
-        left -= 1;
-        let bit = bit_at(number, left);
-        answer = receive_bit(short, long, answer.receiver, bit);
+    let mut done = Stepped {
+        receiver,
+        outputs: no_outputs(),
+    };
+    for place in (0..count).rev() {
+        done = step(columns, done.receiver, 0, bit_at(number, place));
     }
-    answer
+    done
 }
 
 // A whole frame on a receiver that waits: its clocks before the last only count, and end what was
 // under way, so they are done at once.
-fn receive_waiting(
-    short: &[u8],
-    long: &[u8],
-    receiver: Receiver,
-    kind: Kind,
-    number: u64,
-) -> ClockAnswer
+#[inline(always)]
+fn receive_waiting(columns: Columns, receiver: Receiver, kind: Kind, number: u64) -> Stepped
     requires { (ReceiverFacts receiver) × (is_waiting receiver.held ≡ true) × (is_frame kind number ≡ true) }
-    ensures { result ≡ clocks_answer (columns_for (in_use short.now) (in_use long.now)) (no_clock receiver) (bits_of (frame_bits kind) number) }
+    ensures { accepted result ≡ clocks_answer (tables columns.entry) (no_clock receiver) (bits_of (frame_bits kind) number) }
 {
     let core = rest_for(settle(receiver.core), frame_bits(kind) as usize);
     let outputs = no_outputs();
     let idle = Clocked { core, outputs };
-    let frame = decode_finished(short, long, kind, number);
+    let frame = decode_finished(columns, kind, number);
     answered(finish(kind, frame, idle), held_after(number))
 }
 
@@ -95,53 +68,85 @@ fn receive_waiting(
 pub fn after_41_ones(core: Core) -> Receiver
     ensures { result ≡ receiver (settled_clock 41 core).core nothing_held }
 {
-    let after = rest_for(settle(core), 41);
-    let held = Held {
-        count: 0,
-        wanted: 0,
-        bits: 0,
-    };
-    Receiver { core: after, held }
+    Receiver {
+        core: rest_for(settle(core), 41),
+        held: Held::default(),
+    }
 }
 
-// A whole frame, one bit a clock, without triggers: the answer of its last clock.
-pub fn receive_frame(receiver: Receiver, kind: Kind, number: u64) -> ClockAnswer
-    ensures { result ≡ receive_answer columns_of receiver kind number }
+// A whole frame over any columns, one bit a clock, without triggers: what its last clock leaves and
+// shows.
+// At once or bit by bit is a test of the state, no switch of a caller.
+#[inline(always)]
+#[tactic(auto, using(laws::proofs::Rules::picks), unfolding(crate::specs::WholeFrame::receive_answer, refusals::specs::Refusals::number))]
+pub fn receive_over(
+    columns: Columns,
+    receiver: Receiver,
+    kind: Kind,
+    number: u64,
+) -> Result<Stepped, Refusal>
+    ensures { clock_outcome receiver result ≡ receive_answer (tables columns.entry) receiver kind number }
 {
     if !well_formed(receiver) {
-        return refuse_clock(2, receiver);
+        return Err(Refusal::State);
     }
     if !is_frame(kind, number) {
-        return refuse_clock(12, receiver);
+        return Err(Refusal::Frame);
     }
-    let short = column_table();
-    let long = column_table();
     if is_waiting(receiver.held) {
-        return receive_waiting(&short[..8], &long, receiver, kind, number);
+        return Ok(receive_waiting(columns, receiver, kind, number));
     }
-    receive_bits(&short[..8], &long, receiver, frame_bits(kind), number)
+    Ok(receive_bits(columns, receiver, frame_bits(kind), number))
 }
 
-// The kind of frame with this format bit; any number but 0 counts as 1.
+// The same over document 01's table.
+#[inline(always)]
+pub fn receive_frame(receiver: Receiver, kind: Kind, number: u64) -> Result<Stepped, Refusal>
+    ensures { clock_outcome receiver result ≡ receive_answer columns_of receiver kind number }
+{
+    receive_over(own_columns(), receiver, kind, number)
+}
+
+// The kind of frame with this format bit; any number but 0 counts as 1. C hands the format over as a
+// number, and refusal 12 of one over 1 comes after refusal 2: so it is no TryFrom.
+#[tactic(auto, using(laws::proofs::Rules::picks), unfolding(crate::specs::ByFormat::kind_of))]
 pub fn kind_of(format: u8) -> Kind
     ensures { result ≡ kind_of format }
 {
-    if format == 0 {
-        return Kind::Short;
+    match format {
+        0 => Kind::Short,
+        _ => Kind::Long,
     }
-    Kind::Long
 }
 
-// A whole frame whose kind is given by its format bit, as a line that was read has it.
-#[tactic(auto, using(laws::proofs::Rules::picks, crate::proofs::ByFormatLaws::accepted_format), unfolding(crate::specs::ByFormat::receive_by_format))]
-pub fn receive_by_format(receiver: Receiver, format: u8, number: u64) -> ClockAnswer
-    ensures { result ≡ receive_by_format columns_of receiver format number }
+// A whole frame over any columns whose kind is given by its format bit, as a line that was read has it.
+#[inline(always)]
+#[tactic(auto, using(laws::proofs::Rules::picks, crate::proofs::ByFormatLaws::accepted_format), unfolding(crate::specs::ByFormat::receive_by_format, refusals::specs::Refusals::number))]
+pub fn receive_by_format_over(
+    columns: Columns,
+    receiver: Receiver,
+    format: u8,
+    number: u64,
+) -> Result<Stepped, Refusal>
+    ensures { clock_outcome receiver result ≡ receive_by_format (tables columns.entry) receiver format number }
 {
     if format > 1 {
         if !well_formed(receiver) {
-            return refuse_clock(2, receiver);
+            return Err(Refusal::State);
         }
-        return refuse_clock(12, receiver);
+        return Err(Refusal::Frame);
     }
-    receive_frame(receiver, kind_of(format), number)
+    // Each kind has a call of its own: with one call for both it takes a fifth more time.
+    match kind_of(format) {
+        Kind::Short => receive_over(columns, receiver, Kind::Short, number),
+        Kind::Long => receive_over(columns, receiver, Kind::Long, number),
+    }
+}
+
+// The same over document 01's table.
+#[inline(always)]
+pub fn receive_by_format(receiver: Receiver, format: u8, number: u64) -> Result<Stepped, Refusal>
+    ensures { clock_outcome receiver result ≡ receive_by_format columns_of receiver format number }
+{
+    receive_by_format_over(own_columns(), receiver, format, number)
 }

@@ -1,13 +1,11 @@
--- `frame::decode_long` meets its contract: by the test of refusal 12; the columns lent are the whole table. Assumes nothing.
-use Rattle.laws.proofs.Rules.{denied, granted}
-use Rattle.frame.specs.Decode.{decode_frame}
+-- `frame::decode_long` meets its contract, by what its callees ensure. Assumes nothing.
+use mathlib.Core.Path.{ap, ◌∙◌}
+use mathlib.Core.List.{List}
+use Prim.Native.Nat.{ℕ}
+use Rattle.frame.specs.declared.Kind.{Kind}
+use Rattle.frame.specs.declared.Kind.TheVariants.{Long}
+use Rattle.frame.specs.Decode.{decode_number}
 use Rattle.frame.proofs.decode_long.Goals as goal
 
-pub returns-then-not-is_frame : goal.returns-then-not-is_frame
-unfolding decode_frame
-returns-then-not-is_frame c = rw (denied _ _ c.is_frame.ensures c.if-not-is_frame.true) c.bare_answer.ensures
-
 pub returns : goal.returns
-unfolding decode_frame
-returns c =
-    rw (granted _ _ c.is_frame.ensures c.if-not-is_frame.false, c.answer_to.ensures, c.judge.ensures, c.column_table-table.ensures)
+returns c = c.decode.ensures ∙ ap (λ (columns : Kind → List ℕ). decode_number (columns Long) Long c.args.number) c.own_columns.ensures

@@ -6,17 +6,18 @@ use Rattle.line_report.specs.Output.{ones_sent}
 use Rattle.line_report.proofs.Ones.{line_wants}
 use Rattle.line_report.proofs.end_line.Goals as goal
 
-pub put_line-next-requires : goal.put_line-next-requires
-put_line-next-requires c = rw (c.word_digits.ensures, c.wrapping_add_u64-lines.ensures.value, c.feed_line-answer.ensures) c.requires
+pub put_line-requires : goal.put_line-requires
+put_line-requires c = rw (c.word_digits.ensures, c.clock_outcome-answer.ensures, c.feed_line.ensures) c.requires
 
-pub send_ones-receiver-requires : goal.send_ones-receiver-requires
-send_ones-receiver-requires c =
+pub send_ones-requires : goal.send_ones-requires
+send_ones-requires c =
     let given = c.args in
-    subst LeftWanting (sym c.feed_line-answer.ensures) (line_wants given.report.receiver given.line)
+    subst LeftWanting (sym (c.clock_outcome-answer.ensures ∙ c.feed_line.ensures)) (line_wants given.report.receiver given.line)
 
 pub returns : goal.returns
 returns c =
     let digits = c.word_digits.ensures in
-    let lines = c.wrapping_add_u64-lines.ensures.value in
-    let answer = c.feed_line-answer.ensures in
-    (rw (lines, c.send_ones-receiver.ensures ∙ ap (ones_sent columns_of) answer, c.empty_part-part.ensures) refl, rw (digits, lines, answer) at c.put_line-next.ensures)
+    let answer = c.clock_outcome-answer.ensures ∙ c.feed_line.ensures in record {
+      left = rw (c.send_ones.ensures ∙ ap (ones_sent columns_of) answer, c.empty_part.ensures) refl;
+      printed = rw (digits, answer) at c.put_line.ensures;
+    }

@@ -7,11 +7,11 @@ use Rattle.line_report.proofs.report_input.Goals as goal
 pub loop-done-init : goal.loop-done-init
 loop-done-init c = (search rules, search rules, refl, refl, refl)
 
-pub returns-then-input-done : goal.returns-then-input-done
-returns-then-input-done c =
+pub returns : goal.returns
+returns c =
     let given = c.args in
     let done = c.loop-done in record {
-      out_after = sym (used_up columns_of given.report given.input.now given.out.now done.done done.out c.if-input-done.true done.invariant.3) ∙ done.invariant.4
+      out_after = sym (used_up columns_of given.report given.input.now given.out.now done.done done.out c.loop-done-test.false done.invariant.3) ∙ done.invariant.4
           ∙ all_to_do columns_of given.report given.input.now given.out.now;
       used_in_bounds = (done.invariant.0, omega (arith, done.invariant.1, done.invariant.2));
     }
@@ -23,13 +23,13 @@ pub returns-then-out-done-lt-LONGEST_LINE : goal.returns-then-out-done-lt-LONGES
 returns-then-out-done-lt-LONGEST_LINE c =
     let given = c.args in
     let done = c.loop-done in record {
-      out_after = sym (no_more_room columns_of given.report given.input.now given.out.now done.done done.out c.if-input-done.false c.if-out-done-lt-LONGEST_LINE.true) ∙ done.invariant.4
+      out_after = sym (no_more_room columns_of given.report given.input.now given.out.now done.done done.out c.loop-done-test.true c.if-out-done-lt-LONGEST_LINE.true) ∙ done.invariant.4
           ∙ all_to_do columns_of given.report given.input.now given.out.now;
       used_in_bounds = (done.invariant.0, omega (arith, done.invariant.1, done.invariant.2));
     }
 
 pub report_line-done-requires : goal.report_line-done-requires
-report_line-done-requires c = (c.if-input-done.false, omega (arith, c.if-out-done-lt-LONGEST_LINE.false, c.loop-done.invariant.1))
+report_line-done-requires c = (c.loop-done-test.true, omega (arith, c.if-out-done-lt-LONGEST_LINE.false, c.loop-done.invariant.1))
 
 pub loop-done-smaller : goal.loop-done-smaller
 loop-done-smaller c =

@@ -14,7 +14,7 @@ slice_bounds-rest-start c = let some = c.requires.0 in search rules
 pub returns-then-until-rest : goal.returns-then-until-rest
 returns-then-until-rest c =
     code_end columns_of c.args.before c.args.input.now c.args.out.now c.requires.0 c.requires.1 _ _
-    c.until_feed-until.ensures c.if-until-rest.true c.with_characters-part.ensures
+    c.until_feed-until.ensures c.if-until-rest.true c.with_characters.ensures
 
 pub slice_bounds-read_behind-end : goal.slice_bounds-read_behind-end
 slice_bounds-read_behind-end c =
@@ -22,8 +22,8 @@ slice_bounds-read_behind-end c =
     let inside : c.until_feed-until.result ≤ length rest = omega (arith, c.until_feed-until.ensures, until_le rest) in
     sym (length-take-le _ _ inside)
 
-pub end_line-ended-requires : goal.end_line-ended-requires
-end_line-ended-requires c =
+pub end_line-report-requires : goal.end_line-report-requires
+end_line-report-requires c =
     code_room columns_of c.args.before c.args.input.now c.args.out.now c.requires.0 c.requires.1 _
     c.until_feed-until.ensures _ c.read_behind-line.ensures
 
@@ -39,6 +39,8 @@ overflow_add-result-2 c =
 
 pub returns : goal.returns
 returns c =
-    let ended = c.end_line-ended.ensures in
-    code_feed columns_of c.args.before c.args.input.now c.args.out.now c.requires.0 c.requires.1 _
-    c.until_feed-until.ensures _ c.read_behind-line.ensures c.if-until-rest.false _ _ _ ended.0 ended.1
+    let ended = c.end_line-report.ensures in
+    let same = sym ended.printed.same_buffer in
+    let turned = code_feed columns_of c.args.before c.args.input.now c.args.out.now c.requires.0 c.requires.1 _
+    c.until_feed-until.ensures _ c.read_behind-line.ensures c.if-until-rest.false _ _ _ ended.left ended.printed.text_at in
+    grind (arith, turned, same)

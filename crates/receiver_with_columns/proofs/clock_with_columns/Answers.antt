@@ -1,38 +1,23 @@
--- `receiver_with_columns::clock_with_columns` meets its contract: by the check of the columns; those lent on are the two groups. Assumes nothing.
-use mathlib.Core.Path.{sym, ap, ◌∙◌}
+-- `receiver_with_columns::clock_with_columns` meets its contract: by the check of the columns, then over those lent on. Assumes nothing.
+use mathlib.Core.Path.{ap, ◌∙◌}
 use mathlib.Core.List.{List}
 use Prim.Native.Nat.{ℕ}
-use lib.Dec.{lit≤}
-use lib.Seq.{length-take-le}
+use Rattle.std.proofs.lemmas.Result.{err_from_is_err_and}
 use Rattle.frame.specs.declared.Kind.{Kind}
-use Rattle.lent_columns.specs.declared.ColumnsAnswer.{ColumnsAnswer}
-use Rattle.lent_columns.proofs.Laws.{whole_table}
-use Rattle.lent_columns.proofs.Parts.{lent_in_use}
 use Rattle.receiver.specs.Clock.{clock_answer}
-use Rattle.receiver.specs.declared.ClockAnswer.{ClockAnswer}
-use Rattle.receiver_with_columns.specs.declared.ClockWithIndex.{ClockWithIndex}
 use Rattle.receiver_with_columns.specs.WithColumns.{clock_with_columns}
-use Rattle.receiver_with_columns.proofs.Before.{clock_by_2, accepted_clock, refused_clock_lem}
+use Rattle.receiver_with_columns.proofs.Before.{clock_by_2, clocked, clock_refused, clock_not_28}
 use Rattle.receiver_with_columns.proofs.clock_with_columns.Goals as goal
 
--- an answer with index 0
-abbrev clockWithIndex : ClockAnswer → ClockWithIndex
-clockWithIndex answer = record { answer = answer; index = 0 }
-
-pub returns-then-checked-ne0 : goal.returns-then-checked-ne0
+pub returns-in_err-lent : goal.returns-in_err-lent
 unfolding clock_with_columns
-returns-then-checked-ne0 c = c.refuse_with_index.ensures ∙ refused_clock_lem _ _ _ c.check_columns-checked.ensures c.if-checked-ne0.true _
-
-pub slice_bounds-clock_over-end : goal.slice_bounds-clock_over-end
-slice_bounds-clock_over-end c = sym (length-take-le 8 c.args.columns.now (rw (whole_table _ _ c.check_columns-checked.ensures c.if-checked-ne0.false) (lit≤ tt)))
-
-pub slice_bounds-clock_over-end-2 : goal.slice_bounds-clock_over-end-2
-slice_bounds-clock_over-end-2 c = rw (whole_table _ _ c.check_columns-checked.ensures c.if-checked-ne0.false) (lit≤ tt)
+returns-in_err-lent c =
+    let p = err_from_is_err_and c.from_residual.result c.from_residual.ensures.1 in
+    rw (p.1, p.2) (clock_refused _ _ _ c.in_err-lent.ensures.refused _)
 
 pub returns : goal.returns
 unfolding clock_with_columns
 returns c =
-    let given = c.args in
-    let checked = c.check_columns-checked in
-    ap (λ (answer : ClockAnswer). clockWithIndex answer) (c.clock_over-answer.ensures ∙ ap (λ (columns : Kind → List ℕ). clock_answer columns given.receiver given.trigger given.«data») (lent_in_use given.columns.now))
-    ∙ accepted_clock _ _ _ (ap (λ (a : ColumnsAnswer). a.refusal) (sym checked.ensures) ∙ c.if-checked-ne0.false) (λ bad. clock_by_2 _ _ bad _ _)
+    let lent = c.in_ok-lent.ensures in
+    clocked _ _ _ _ lent.passes (λ bad. clock_by_2 _ _ bad _ _) (clock_not_28 _ _ _ _)
+    (c.clock_over.ensures ∙ ap (λ (columns : Kind → List ℕ). clock_answer columns c.args.receiver c.args.trigger c.args.«data») lent.lent)

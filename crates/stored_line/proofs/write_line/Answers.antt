@@ -15,19 +15,22 @@ use Rattle.frame.specs.Numbers.{is_frame}
 use Rattle.laws.proofs.Rules.{denied, granted}
 use Rattle.stored_line.specs.Digits.{hex_digits}
 use Rattle.stored_line.specs.Read.{digit_count}
-use Rattle.stored_line.specs.Write.{write_done, refused_line, line_length, write_line}
+use Rattle.refusals.specs.Refusals.{number as refusal_number}
+use Rattle.refusals.specs.declared.Refusal.TheVariants.{LineBuffer}
+use Rattle.std.specs.Prelude.{Ok, Err}
+use Rattle.stored_line.specs.Write.{written_answer, write_done, line_length, write_line}
 use Rattle.stored_line.proofs.Digits.{stored_behind, length_digits}
 use Rattle.stored_line.proofs.write_line.Goals as goal
 
 -- ---- the definition at a number d of digits that is that of the kind
 
 too_small : (kind : Kind) (number : ℕ) (buffer : List ℕ) (d : ℕ) → d ≡ digit_count kind → is_frame kind number ≡ true → length buffer ≤ d
-    → refused_line 14 buffer ≡ write_line kind number buffer
-unfolding write_line
+    → write_done (written_answer (Err LineBuffer)) buffer ≡ write_line kind number buffer
+unfolding write_line refusal_number
 too_small kind number buffer d e f h = rw (f, lt-ltb (length buffer) (line_length kind) (omega arith))
 
 large_enough : (kind : Kind) (number : ℕ) (buffer : List ℕ) (d : ℕ) → d ≡ digit_count kind → is_frame kind number ≡ true → d < length buffer
-    → write_done (record { refusal = 0; size = suc d }) (hex_digits d number ++ drop d (set buffer d 10)) ≡ write_line kind number buffer
+    → write_done (written_answer (Ok (suc d))) (hex_digits d number ++ drop d (set buffer d 10)) ≡ write_line kind number buffer
 unfolding write_line
 large_enough kind number buffer d e f h =
     rw (f, le-ltb (length buffer) (line_length kind) (omega arith), e)
@@ -40,7 +43,7 @@ count_small Long = omega arith
 -- ---- the goals
 
 pub returns-then-not-is_frame : goal.returns-then-not-is_frame
-unfolding write_line
+unfolding write_line refusal_number
 returns-then-not-is_frame c = rw (denied _ _ c.is_frame.ensures c.if-not-is_frame.true)
 
 pub returns-then-buffer-digits : goal.returns-then-buffer-digits
@@ -63,7 +66,7 @@ shape_of-buffer c =
 pub returns : goal.returns
 returns c =
     let digits = c.digit_count-digits in
-    ap₂ (λ (n : ℕ) (b : List ℕ). write_done (record { refusal = 0; size = n }) b) (add-one digits.result) c.write_digits.ensures
+    ap₂ (λ (n : ℕ) (b : List ℕ). write_done (written_answer (Ok n)) b) (add-one digits.result) c.write_digits.ensures
     ∙ large_enough _ _ _ _ digits.ensures
     (granted _ _ c.is_frame.ensures c.if-not-is_frame.false)
     c.if-buffer-digits.false

@@ -1,11 +1,12 @@
--- `trace::run_block` meets its contract: the columns lent are document 01's table. Assumes nothing.
+-- `trace::run_block` meets its contract: the columns are document 01's. Assumes nothing.
+use mathlib.Core.Path.{ap, ◌∙◌}
+use mathlib.Core.List.{List}
+use Prim.Native.Nat.{ℕ}
+use Rattle.frame.specs.declared.Kind.{Kind}
+use Rattle.trace.specs.Block.{run_block}
 use Rattle.trace.proofs.run_block.Goals as goal
-use mathlib.Core.Path.{sym}
-use lib.Dec.{lit≤}
-use lib.Seq.{length-take-le}
-
-pub slice_bounds-run_block_over-end : goal.slice_bounds-run_block_over-end
-slice_bounds-run_block_over-end c = sym (length-take-le 8 c.column_table-short.result (rw c.column_table-short.ensures (lit≤ tt)))
 
 pub returns : goal.returns
-returns c = rw (c.column_table-long.ensures, c.column_table-short.ensures) at c.run_block_over.ensures
+returns c =
+    c.run_block_over.ensures
+    ∙ ap (λ (columns : Kind → List ℕ). run_block columns c.args.receiver c.args.block.now c.args.buffer.now) c.own_columns.ensures

@@ -9,6 +9,3 @@ returns-then-count-eq0 c =
     let size : length c.args.characters ≡ 11 = search rules in
     c.read_line.ensures ∙ uncut c.args.characters _ size
     ∙ ap (λ (n : ℕ). read_part (with_characters (line_part n c.args.characters) c.args.more.now)) (sym c.if-count-eq0.true)
-
-pub returns : goal.returns
-returns c = c.read_part.ensures ∙ ap read_part c.with_characters.ensures

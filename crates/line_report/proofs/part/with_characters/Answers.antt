@@ -1,5 +1,5 @@
 -- `line_report::part::with_characters` meets its contract. The invariant: the characters still to come, behind those taken, are all of them. Assumes nothing.
-use Rattle.std.proofs.Common.{◌≡◌, ℕ, ◌+◌, ◌<◌, List, length, get_or, drop, sym, refl, ap, ◌∙◌, add-one, drop_of_length-le, drop-cons, rules}
+use Rattle.std.proofs.Common.{◌≡◌, ℕ, ◌+◌, ◌<◌, List, length, get_or, drop, sym, refl, ap, ◌∙◌, add-one, drop_of_length-le, drop-cons}
 use Rattle.line_report.specs.declared.LinePart.{LinePart}
 use Rattle.line_report.specs.Report.{with_character, with_characters}
 use Rattle.line_report.proofs.part.with_characters.Goals as goal
@@ -9,14 +9,10 @@ turn_more : (part next : LinePart) (characters : List ℕ) (at : ℕ) → at < l
 unfolding with_characters
 turn_more part next characters at h e = rw (add-one, drop-cons characters at 0, e) refl
 
-pub loop-at-init : goal.loop-at-init
-loop-at-init c = (search rules, refl)
-
-pub loop-at-preserved : goal.loop-at-preserved
-loop-at-preserved c =
-    let turn = c.loop-at in
-    (search rules, turn_more _ _ _ _ c.loop-at-test.true c.with_character-next.ensures ∙ turn.invariant.1)
+pub loop-character-preserved : goal.loop-character-preserved
+loop-character-preserved c =
+    turn_more _ _ _ _ c.loop-character-test.true c.with_character-next.ensures ∙ c.loop-character.invariant
 
 pub returns : goal.returns
 unfolding with_characters
-returns c = ap (with_characters c.loop-at.next) (sym (drop_of_length-le _ c.loop-at-test.false)) ∙ c.loop-at.invariant.1
+returns c = ap (with_characters c.loop-character.next) (sym (drop_of_length-le _ c.loop-character-test.false)) ∙ c.loop-character.invariant

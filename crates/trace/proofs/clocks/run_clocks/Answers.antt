@@ -4,8 +4,7 @@ use mathlib.Core.List.{List}
 use Prim.Native.Nat.{ℕ}
 use native.Mathlib.Omega.{arith}
 use lib.ListN.{drop_of_length-le}
-use Rattle.hamming.specs.Code.{in_use}
-use Rattle.frame.specs.Columns.{columns_for}
+use Rattle.frame.specs.Columns.{tables}
 use Rattle.trace.specs.Run.{clocks_run}
 use borrow.Author.Rules.{rules}
 use Rattle.trace.proofs.clocks.run_clocks.Goals as goal
@@ -32,5 +31,5 @@ unfolding clocks_run
 returns c =
     let last = c.loop-progress in
     let given = c.args in
-    ap (λ (bytes : List ℕ). clocks_run (columns_for (in_use given.short.now) (in_use given.long.now)) last.progress.next last.progress.run bytes last.buffer) (sym (drop_of_length-le given.block.now {i = last.progress.next} (search rules)))
+    ap (λ (bytes : List ℕ). clocks_run (tables given.columns) last.progress.next last.progress.run bytes last.buffer) (sym (drop_of_length-le given.block.now {i = last.progress.next} (search rules)))
     ∙ last.invariant.2

@@ -2,14 +2,13 @@
 use mathlib.Core.Path.{◌≡◌}
 use Prim.Native.Nat.{◌-◌}
 use lib.ListN.{length}
-use Rattle.hamming.specs.Code.{in_use}
-use Rattle.frame.specs.Columns.{columns_for}
+use Rattle.frame.specs.Columns.{tables}
 use Rattle.trace.specs.Run.{ProgressFacts, remaining}
 use Rattle.trace.proofs.clocks.run_clocks.Given as goal
 
 abbrev pub invariant-loop-progress : goal.invariant-loop-progress
 invariant-loop-progress l =
-    let columns = columns_for (in_use l.short) (in_use l.long) in
+    let columns = tables l.columns in
     (ProgressFacts l.progress l.block) × (length l.buffer ≡ length l.initial.buffer) × (remaining columns l.block l.progress l.buffer ≡ remaining columns l.block l.initial.progress l.initial.buffer)
 
 abbrev pub decreases-loop-progress : goal.decreases-loop-progress

@@ -1,8 +1,7 @@
 -- `trace::clocks::run_finished` meets its contract: a finished frame has a verdict other than 0, and so a record. Assumes nothing.
 use mathlib.Core.Path.{◌≡◌, sym, ap₂, subst, ◌∙◌}
 use mathlib.Core.Bool.{true}
-use Rattle.hamming.specs.Code.{in_use}
-use Rattle.frame.specs.Columns.{columns_for}
+use Rattle.frame.specs.Columns.{tables}
 use Rattle.receiver_state.specs.declared.Held.{Held}
 use Rattle.receiver_state.specs.declared.Clocked.{Clocked}
 use Rattle.verdicts.specs.Finished.{finished}
@@ -18,7 +17,7 @@ returns c =
     let given = c.args in
     let is = c.finish-clocked.ensures ∙ ap₂ (finished given.kind) c.decode_finished-frame.ensures c.idle_clock.ensures in
     with_record_lem given.run given.place held.result c.finish-clocked.result given.buffer.now _ c.record_of.result
-    (subst (λ (x : Clocked). recorded x.outputs ≡ true) (sym is) (frame_recorded (columns_for (in_use given.short.now) (in_use given.long.now)) given.kind given.number _))
+    (subst (λ (x : Clocked). recorded x.outputs ≡ true) (sym is) (frame_recorded (tables given.columns) given.kind given.number _))
     c.record_of.ensures
     c.add_record.ensures
     ∙ ap₂ (λ (h : Held) (x : Clocked). answered_run given.run given.place (clocked_answer h x) given.buffer.now) held.ensures is

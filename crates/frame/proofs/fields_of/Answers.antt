@@ -1,8 +1,0 @@
--- `frame::fields_of` meets its contract: each arm knows its kind. Assumes nothing.
-use Rattle.frame.proofs.fields_of.Goals as goal
-
-pub returns-in-Short : goal.returns-in-Short
-returns-in-Short c = rw c.in-Short.is
-
-pub returns-in-Long : goal.returns-in-Long
-returns-in-Long c = rw c.in-Long.is

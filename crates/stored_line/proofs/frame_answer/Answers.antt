@@ -1,8 +1,0 @@
--- `stored_line::frame_answer` meets its contract: each arm knows its kind. Assumes nothing.
-use Rattle.stored_line.proofs.frame_answer.Goals as goal
-
-pub returns-in-Short : goal.returns-in-Short
-returns-in-Short c = rw c.in-Short.is
-
-pub returns-in-Long : goal.returns-in-Long
-returns-in-Long c = rw c.in-Long.is
