@@ -21,7 +21,8 @@ made (Ok r) e = refl
 made (Err refusal) e = absurd (eqb-false (number refusal) 0 (none_is_success refusal) e)
 
 pub unwrap-requires : goal.unwrap-requires
-unwrap-requires c = made c.fresh.result (ap (λ (a : FreshAnswer). a.refusal) (c.fresh.ensures ∙ own))
+unfolding fresh_answer
+unwrap-requires c = made c.fresh.result (ap (λ (a : FreshAnswer). a.refusal) c.fresh.ensures)
 
 pub returns : goal.returns
 returns c =
