@@ -1,3 +1,4 @@
+pub mod Integers
 pub mod Naturals
 pub mod Inverse
 pub mod Laws
