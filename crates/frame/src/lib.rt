@@ -6,14 +6,14 @@
 // number go apart, and each kind has an encoder and a decoder: C has them so, and definitions take them so.
 #![tactic(auto)]
 
-ghost use Rattle.std.specs.Prelude.{◌≡◌, ◌-◌, ◌%◌, ◌^◌, take, Ok};
+ghost use Rattle.std.specs.Prelude.{◌≡◌, ◌-◌, ◌%◌, ◌^◌, cond, take, Ok};
 ghost use Rattle.hamming.specs.Code.{in_use, by_syndrome};
 ghost use Rattle.hamming.specs.Columns.{short_columns, long_columns};
 ghost use Rattle.frame.specs.Numbers.{data_bits, frame_bits, is_frame, word_bits, check_bits_of};
 ghost use Rattle.frame.specs.Columns.{columns_for, columns_of, tables};
 ghost use Rattle.frame.specs.Encode.{word_of, fields_of, encode_word, encode_short, encode_number, encoder_answer};
 ghost use Rattle.frame.specs.Place.{place_in, places};
-ghost use Rattle.frame.specs.Decode.{fixed_zero, judged_word, judged, bare_answer, answer_to, finished_answer, decode_number, decoder_answer};
+ghost use Rattle.frame.specs.Decode.{fixed_zero, judged_word, judged, bare_answer, good_answer, answer_to, finished_answer, decode_number, decoder_answer};
 ghost use Rattle.frame.specs.declared.Kind.TheVariants.{Short, Long};
 
 use hamming::{Word, WrongBit, by_syndrome, check_number, column_table, syndrome};
@@ -316,6 +316,22 @@ pub fn bare_answer(refusal: u8, verdict: u8, word: u32) -> Answer
     }
 }
 
+// The answer to a good frame, with its fields. Flag and wrong bit come apart: it is said of each pair.
+#[inline(always)]
+#[tactic(auto, using(laws::proofs::Rules::picks))]
+pub fn good_answer(kind: Kind, word: u32, corrected: bool, wrong: Option<WrongBit>) -> Answer
+    ensures { result ≡ good_answer kind (cond corrected 1 0) (place_in kind wrong) word }
+{
+    Answer {
+        refusal: 0,
+        verdict: 0,
+        corrected: u8::from(corrected),
+        place: place_of(kind, wrong),
+        word,
+        fields: fields_of(kind, word),
+    }
+}
+
 // The answer to a frame so judged.
 pub fn answer_to(kind: Kind, judged: Judged) -> Answer
     ensures { result ≡ answer_to kind judged }
@@ -325,14 +341,7 @@ pub fn answer_to(kind: Kind, judged: Judged) -> Answer
         Judged::EvenSyndrome => bare_answer(0, 8, 0),
         Judged::OddSyndrome => bare_answer(0, 11, 0),
         Judged::FixedZero { word } => bare_answer(0, 9, word),
-        Judged::Good { word, wrong } => Answer {
-            refusal: 0,
-            verdict: 0,
-            corrected: u8::from(wrong.is_some()),
-            place: place_of(kind, wrong),
-            word,
-            fields: fields_of(kind, word),
-        },
+        Judged::Good { word, wrong } => good_answer(kind, word, wrong.is_some(), wrong),
     }
 }
 
