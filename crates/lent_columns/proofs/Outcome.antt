@@ -4,6 +4,7 @@ use mathlib.Core.Bool.{Bool, true, false, cond}
 use mathlib.Core.List.{List}
 use lib.Dec.{ltb}
 use Prim.Native.Nat.{ℕ}
+use Rattle.std.specs.Result.{IfOk}
 use Rattle.std.specs.declared.result.Result.{Result}
 use Rattle.std.specs.declared.result.Result.TheVariants.{Ok, Err}
 use Rattle.refusals.specs.declared.Refusal.{Refusal}
@@ -75,3 +76,9 @@ module _ (table : List ℕ) where
         go : (b : Bool) → decoded_outcome kind (cond b (Ok said) (Err Frame)) ≡ decoded_with 0 (cond b (answer_to kind said) (bare_answer 12 0 0))
         go true = refl
         go false = refl
+
+    -- the wrong bit with it, of which C is told the place alone
+    pub frame_said : (kind : Kind) (n : ℕ) (given : Result Judged Refusal) → given ≡ decode_number (tables lent kind) kind n
+        → IfOk given (λ said. Ok said ≡ decode_number (lent_columns table kind) kind n)
+    frame_said kind n (Ok said) q = q ∙ ap (λ (columns : Kind → List ℕ). decode_number (columns kind) kind n) same
+    frame_said kind n (Err refusal) q = tt
