@@ -146,6 +146,7 @@ line_read_laws =
       refused_by_12 = refused_by_12;
       accepted = accepted;
       refusal_is = λ refusal. refl;
+      refusal_answered = λ refusal. refl;
       numbers = (refl, refl, refl);
       short_is = λ number. refl;
       long_is = λ number. refl;

@@ -8,7 +8,7 @@ use Rattle.refusals.specs.declared.Refusal.{Refusal}
 use Rattle.refusals.specs.declared.Refusal.TheVariants.{LineLength, Character, Frame}
 use Rattle.refusals.specs.Refusals.{number}
 use Rattle.stored_line.specs.Digits.{digit_value, hex_number, hex_digits}
-use Rattle.stored_line.specs.Read.{stored_frame, read_line, line_answer}
+use Rattle.stored_line.specs.Read.{stored_frame, read_line, refused_line_answer, line_answer}
 use Rattle.stored_line.specs.Write.{write_done, write_line}
 
 -- ---- digits
@@ -68,7 +68,8 @@ pub record LineReadLaws : Type 0 where
   pub accepted : (kind : Kind) (characters : List ℕ) → HasLength kind characters → Each Digit characters → is_frame kind (hex_number characters) ≡ true
       → read_line characters ≡ Ok (stored_frame kind (hex_number characters))
   -- "A refused call returns its number with all other result fields 0"; "Success is number 0", and the kind is its format bit
-  pub refusal_is : (refusal : Refusal) → line_answer (Err refusal) ≡ record { refusal = number refusal; kind = 0; number = 0 }
+  pub refusal_is : (refusal : ℕ) → refused_line_answer refusal ≡ record { refusal = refusal; kind = 0; number = 0 }
+  pub refusal_answered : (refusal : Refusal) → line_answer (Err refusal) ≡ record { refusal = number refusal; kind = 0; number = 0 }
   pub numbers : (number LineLength ≡ 10) × (number Character ≡ 11) × (number Frame ≡ 12)
   pub short_is : (number : ℕ) → line_answer (Ok (stored_frame Short number)) ≡ record { refusal = 0; kind = 0; number = number }
   pub long_is : (number : ℕ) → line_answer (Ok (stored_frame Long number)) ≡ record { refusal = 0; kind = 1; number = number }

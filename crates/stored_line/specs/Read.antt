@@ -34,7 +34,11 @@ read_line characters =
     (cond (eqb (length characters) 11) (read_as Long characters)
     (Err LineLength))
 
+-- "A refused call returns its number with all other result fields 0"
+abbrev pub refused_line_answer : ℕ → LineAnswer
+refused_line_answer refusal = record { refusal = refusal; kind = 0; number = 0 }
+
 -- what C is handed: the paper's number and values for each case; the kind is its format bit
 abbrev pub line_answer : Result StoredFrame Refusal → LineAnswer
 line_answer (Ok frame) = record { refusal = 0; kind = format_bit frame.kind; number = frame.number }
-line_answer (Err refusal) = record { refusal = number refusal; kind = 0; number = 0 }
+line_answer (Err refusal) = refused_line_answer (number refusal)
