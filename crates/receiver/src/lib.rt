@@ -6,7 +6,7 @@
 
 ghost use Rattle.std.specs.Prelude.{◌≡◌};
 ghost use Rattle.frame.specs.Columns.{columns_of, tables};
-ghost use Rattle.receiver.specs.Clock.{accepted, clocked_answer, step_answer, clock_answer, clock_outcome};
+ghost use Rattle.receiver.specs.Clock.{accepted, clocked_answer, step_answer, refused_clock, clock_answer, clock_outcome};
 
 use channel_b::{Taken, held_after, take_bit};
 use frame::{Columns, decode_finished, own_columns};
@@ -46,12 +46,20 @@ pub fn clock_outcome(receiver: Receiver, outcome: Result<Stepped, Refusal>) -> C
             };
         }
         Err(refusal) => {
-            return ClockAnswer {
-                refusal: u8::from(refusal),
-                receiver,
-                outputs: no_outputs(),
-            };
+            return refuse_clock(u8::from(refusal), receiver);
         }
+    }
+}
+
+// A refused clock: the state as it came, and every output 0. It is said of every number.
+#[inline(always)]
+pub fn refuse_clock(refusal: u8, receiver: Receiver) -> ClockAnswer
+    ensures { result ≡ refused_clock refusal receiver }
+{
+    ClockAnswer {
+        refusal,
+        receiver,
+        outputs: no_outputs(),
     }
 }
 
