@@ -122,13 +122,13 @@ pub fn write_byte(core: Core, number: u8, value: u8) -> Core
 {
     let mut next = core;
     match number {
-        0..=3 => next = store_byte(number, value, core),
+        0..=3 => return store_byte(number, value, core),
         8 | 9 => next.errors.single = 0,
         10 => next.errors.double = 0,
         20 => next.settings.config2 = value,
         21 => next.settings.config3 = value,
-        24 | 25 => next = clear_bunch(core),
-        26..=28 => next = clear_event(core),
+        24 | 25 => return clear_bunch(core),
+        26..=28 => return clear_event(core),
         _ => {}
     }
     next

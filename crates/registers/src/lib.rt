@@ -39,14 +39,24 @@ pub struct WriteAnswer {
     pub receiver: Receiver,
 }
 
-// A refused write hands back the state as it came.
+// A refused write hands back the state as it came. Each case returns by itself: see `clock_outcome`.
 #[inline(always)]
 pub fn write_given(receiver: Receiver, given: Result<Receiver, Refusal>) -> WriteAnswer
     ensures { result ≡ write_given receiver given }
 {
-    WriteAnswer {
-        refusal: number_of(given),
-        receiver: given.unwrap_or(receiver),
+    match given {
+        Ok(next) => {
+            return WriteAnswer {
+                refusal: 0,
+                receiver: next,
+            };
+        }
+        Err(refusal) => {
+            return WriteAnswer {
+                refusal: u8::from(refusal),
+                receiver,
+            };
+        }
     }
 }
 
