@@ -90,7 +90,7 @@ clocks_small columns before [] s = s
 clocks_small columns before (bit ∷ bits) s =
     clocks_small columns (clock_answer columns before.receiver 0 bit) bits (clock_small columns before.receiver 0 bit)
 
-pub number_small : (refusal : Refusal) → number refusal < 1000
+pub number_small : (refusal : Refusal) → number refusal < 100
 unfolding number
 number_small Bit = lit< tt
 number_small State = lit< tt
@@ -118,7 +118,7 @@ line_small columns r (Ok frame) =
     picked Small (well_formed r)
     (picked Small (is_frame frame.kind frame.number) (clocks_small columns (no_clock r) (bits_of (frame_bits frame.kind) frame.number) (refused_small 0 r (lit< tt))) (refused_small 12 r (lit< tt)))
     (refused_small 2 r (lit< tt))
-line_small columns r (Err refusal) = refused_small (number refusal) r (number_small refusal)
+line_small columns r (Err refusal) = refused_small (number refusal) r (omega (arith, number_small refusal))
 
 -- ---- the text
 

@@ -81,7 +81,7 @@ line_of number digits answer h =
 refused_line_lem : (r : Receiver) (lines : ℕ) (line : Result StoredFrame Refusal) → well_formed r ≡ false → length (line_prints columns_of r lines line) ≤ 27
 unfolding receive_answer
 refused_line_lem r lines (Ok frame) w = line_of (next_line lines) (word_digits (Ok frame)) _ (rw w (by_2 (word_digits (Ok frame)) r))
-refused_line_lem r lines (Err refusal) w = line_of (next_line lines) 0 (refused_clock (number refusal) r) (refused_answer (number refusal) r (number_small refusal))
+refused_line_lem r lines (Err refusal) w = line_of (next_line lines) 0 (refused_clock (number refusal) r) (refused_answer (number refusal) r (omega (arith, number_small refusal)))
 
 -- ---- the end
 

@@ -25,8 +25,12 @@ pub puts_then : (first second : List ℕ) {before between after : Printer} → P
 puts_then first second s t = record { same_buffer = t.same_buffer ∙ s.same_buffer; text_at = then_text first second s.text_at t.text_at }
 
 -- nothing stored
+pub nothing_stored : (at : ℕ) (before : List ℕ) → TextAt at at [] before before
+nothing_stored at before = record { next_is = omega arith; stored = refl }
+
+-- the same of a printer
 pub puts_nothing : (printer : Printer) → Puts [] printer printer
-puts_nothing printer = record { same_buffer = refl; text_at = record { next_is = omega arith; stored = refl } }
+puts_nothing printer = record { same_buffer = refl; text_at = nothing_stored printer.at printer.out.now }
 
 -- the buffer keeps its length
 pub kept_length : {n at : ℕ} {text before after : List ℕ} → TextAt n at text before after → length after ≡ length before
@@ -40,8 +44,13 @@ text_below t h = omega (arith, t.next_is, kept_length t)
 pub room_first : (at : ℕ) (first second : List ℕ) {room : ℕ} → at + length (first ++ second) ≤ room → at + length first ≤ room
 room_first at first second h = omega (arith, length-append first second)
 
+pub text_room_then : {at n : ℕ} (first second : List ℕ) {before after : List ℕ} → at + length (first ++ second) ≤ length before
+    → TextAt n at first before after → n + length second ≤ length after
+text_room_then {at} {n} first second h t = omega (arith, length-append first second, t.next_is, kept_length t)
+
+-- the same of a printer
 pub room_then : (first second : List ℕ) {before after : Printer} → HasRoom (first ++ second) before → Puts first before after → HasRoom second after
-room_then first second h t = omega (arith, length-append first second, t.text_at.next_is, kept_length t.text_at)
+room_then first second h t = text_room_then first second h t.text_at
 
 -- room for some characters is room for the first
 pub room_one : (at character : ℕ) (rest : List ℕ) {room : ℕ} → at + length (character ∷ rest) ≤ room → at + length (character ∷ []) ≤ room

@@ -7,7 +7,6 @@
 
 ghost use Rattle.std.specs.Prelude.{◌≡◌, ◌+◌, ◌<◌, ◌≤◌, ◌==◌, length, position};
 ghost use Rattle.frame.specs.Columns.{columns_of};
-ghost use Rattle.receiver.specs.Clock.{clock_outcome};
 ghost use Rattle.whole_frame.specs.WholeFrame.{LeftWanting};
 ghost use Rattle.line_report.specs.Text.{kind_digits, word_digits};
 ghost use Rattle.line_report.specs.Output.{feed_line, ones_sent};
@@ -17,7 +16,7 @@ ghost use Rattle.line_report.specs.Report.{start_report, until_feed, line_ended,
 
 use frame::Kind;
 use part::{empty_part, read_behind, read_part, with_characters};
-use receiver::{ClockAnswer, Stepped, clock_outcome};
+use receiver::{ClockAnswer, clock_outcome, refuse_clock};
 use receiver_state::{Receiver, fresh};
 use refusals::Refusal;
 use stored_line::StoredFrame;
@@ -106,12 +105,18 @@ fn kind_digits(kind: Kind) -> usize
     }
 }
 
-// A line's bits go through the receiver; a refused line has none.
-fn feed_line(receiver: Receiver, line: Result<StoredFrame, Refusal>) -> Result<Stepped, Refusal>
-    ensures { clock_outcome receiver result ≡ feed_line columns_of receiver line }
+// A line's bits go through the receiver; a refused line has none. The text has the papers' numbers, as C
+// is handed them. What the receiver answers is taken apart here: handed on, it was copied once more.
+fn feed_line(receiver: Receiver, line: Result<StoredFrame, Refusal>) -> ClockAnswer
+    ensures { result ≡ feed_line columns_of receiver line }
 {
-    let frame = line?;
-    receive_frame(receiver, frame.kind, frame.number)
+    match line {
+        Ok(StoredFrame { kind, number }) => match kind {
+            Kind::Short => clock_outcome(receiver, receive_frame(receiver, Kind::Short, number)),
+            Kind::Long => clock_outcome(receiver, receive_frame(receiver, Kind::Long, number)),
+        },
+        Err(refusal) => refuse_clock(u8::from(refusal), receiver),
+    }
 }
 
 // Document 02, Q-1: 41 ones follow a line with verdict 7, since the line leaves the receiver wanting
@@ -136,8 +141,7 @@ fn end_line(report: Report, line: Result<StoredFrame, Refusal>, printer: &mut Pr
     ensures left { result ≡ line_ended columns_of report line }
     ensures printed { Puts (line_end_prints columns_of report line) printer.old printer.new }
 {
-    // The text has the papers' numbers, as C is handed them.
-    let answer = clock_outcome(report.receiver, feed_line(report.receiver, line));
+    let answer = feed_line(report.receiver, line);
     let lines = report.lines.wrapping_add(1);
     printer.put_line(lines, word_digits(line), answer);
     Report {

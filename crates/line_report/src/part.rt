@@ -42,11 +42,15 @@ fn with_character(part: LinePart, character: u8) -> LinePart
     }
 }
 
+// Of a line that is too long no character matters any more.
 pub(crate) fn with_characters(part: LinePart, characters: &[u8]) -> LinePart
     ensures { result ≡ with_characters part characters.now }
 {
     let mut next = part;
     for character in characters {
+        if next.count > 11 {
+            return long_part();
+        }
         next = with_character(next, *character);
     }
     next

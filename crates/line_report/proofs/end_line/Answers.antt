@@ -7,17 +7,17 @@ use Rattle.line_report.proofs.Ones.{line_wants}
 use Rattle.line_report.proofs.end_line.Goals as goal
 
 pub put_line-requires : goal.put_line-requires
-put_line-requires c = rw (c.word_digits.ensures, c.clock_outcome-answer.ensures, c.feed_line.ensures) c.requires
+put_line-requires c = rw (c.word_digits.ensures, c.feed_line-answer.ensures) c.requires
 
 pub send_ones-requires : goal.send_ones-requires
 send_ones-requires c =
     let given = c.args in
-    subst LeftWanting (sym (c.clock_outcome-answer.ensures ∙ c.feed_line.ensures)) (line_wants given.report.receiver given.line)
+    subst LeftWanting (sym (c.feed_line-answer.ensures)) (line_wants given.report.receiver given.line)
 
 pub returns : goal.returns
 returns c =
     let digits = c.word_digits.ensures in
-    let answer = c.clock_outcome-answer.ensures ∙ c.feed_line.ensures in record {
+    let answer = c.feed_line-answer.ensures in record {
       left = rw (c.send_ones.ensures ∙ ap (ones_sent columns_of) answer, c.empty_part.ensures) refl;
       printed = rw (digits, answer) at c.put_line.ensures;
     }
