@@ -14,9 +14,9 @@ use std::io::Read;
 // What is kept between two reads: the report, and how much of the output buffer is filled.
 // No heap: the buffer is an array of main, so what is filled is told beside it, and in each clause.
 #[derive(Clone, Copy)]
-struct Progress {
-    report: Report,
-    filled: usize,
+pub struct Progress {
+    pub report: Report,
+    pub filled: usize,
 }
 
 // What breaks a report off.
